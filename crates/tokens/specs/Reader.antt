@@ -1,5 +1,6 @@
 -- The next token of a text from a place on.
 use mathlib.Core.Path.{_≡_}
+use mathlib.Core.Logic.{_≢_}
 use mathlib.Core.Bool.{cond}
 use mathlib.Core.List.{List, [], _∷_}
 use Prim.Native.Nat.{ℕ, suc, _+_, _≤_, _<_}
@@ -11,6 +12,8 @@ use Rattle.std.specs.declared.option.Option.the-variants.{Some, None}
 use Rattle.std.specs.declared.result.Result.{Result}
 use Rattle.std.specs.declared.result.Result.the-variants.{Ok, Err}
 use Rattle.tokens.specs.declared.Token.{Token}
+use Rattle.tokens.specs.declared.class.Class.{Class}
+use Rattle.tokens.specs.declared.class.Class.the-variants.{Blank, Letter, Digit, Other, Sign}
 use Rattle.tokens.specs.declared.BytesFault.{BytesFault}
 use Rattle.tokens.specs.declared.BytesFault.the-variants.{TooLong, NoToken, LongName}
 use Rattle.tokens.specs.declared.TokenReader.{TokenReader}
@@ -43,6 +46,11 @@ next place (b ∷ bs) = next-at (byte b) place (b ∷ bs) (next (suc place) bs)
 abbrev pub bytes : TokenReader → List ℕ
 bytes r = r .text .now
 
+-- a text of n bytes is short enough exactly when it has at most 16,384
+abbrev pub Measured : ℕ → Result (Unit {0}) BytesFault → Type 0
+Measured n (Ok u) = n ≤ 16384
+Measured n (Err f) = (16384 < n) × (f ≡ TooLong)
+
 -- the next token as the reader answers it
 abbrev pub Found : Next → Result (Option Token) BytesFault → Type 0
 Found n (Ok None) = n ≡ none at-end
@@ -56,3 +64,23 @@ abbrev pub Moved : ℕ → ℕ → ℕ → Result (Option Token) BytesFault → 
 Moved n p q (Ok None) = q ≡ p
 Moved n p q (Ok (Some t)) = (q ≡ t .place + t .len) × (p < q) × (q ≤ n)
 Moved n p q (Err e) = q ≡ p
+
+-- ---- what the scans tell each other
+-- a byte's class as the code has it
+abbrev pub class-of : Class → Byte
+class-of Blank = blank
+class-of Letter = letter
+class-of Digit = digit
+class-of Other = other
+class-of (Sign k) = sign k
+
+-- the bytes do not begin with a blank
+abbrev pub Solid : List ℕ → Type 0
+Solid [] = Unit {0}
+Solid (b ∷ bs) = byte b ≢ blank
+
+-- a token stands at p, and within n bytes from there
+abbrev pub Inside : ℕ → ℕ → Result (Option Token) BytesFault → Type 0
+Inside p n (Ok None) = Unit {0}
+Inside p n (Ok (Some t)) = (t .place ≡ p) × (0 < t .len) × (t .len ≤ n)
+Inside p n (Err e) = Unit {0}

@@ -2,12 +2,14 @@
 ghost use Prim.Native.Nat.{_≤_};
 ghost use lib.ListN.{length};
 
+mod class;
 mod names;
-mod scan;
 mod reader;
+mod scan;
 
 pub use names::number;
 pub use names::part;
+pub use reader::check_length;
 
 // What a token is.
 #[derive(Clone, Copy)]

@@ -1,0 +1,4 @@
+mod Runs
+mod Blanks
+mod Follow
+mod Numbering

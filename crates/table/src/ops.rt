@@ -20,11 +20,11 @@ fn put<T: Copy>(places: &mut [T], at: usize, item: T)
 }
 
 // The record at a place.
-fn look<T: Copy>(places: &[T], at: usize) -> T
-    requires { ⌜ at < length (now places) ⌝ }
-    ensures shown { λ r. ⌜ r ≡ getD (now (places .entry)) at r ⌝ }
+fn look<T: Copy>(places: &[T], i: usize) -> T
+    requires { ⌜ i < length (now places) ⌝ }
+    ensures shown { λ r. ⌜ r ≡ getD (now (places .entry)) i r ⌝ }
 {
-    places[at]
+    places[i]
 }
 
 impl<'a, T: Copy> Rows<'a, T> {

@@ -33,9 +33,8 @@ module _ (text : List ℕ) (w : List ℕ) (ks : List Name) (n : ℕ) (inv : n + 
   unfolding other
   all-known l = let z = leading-drop-all other ks n l in omega arith
 
-pub alike-told : (xs ys as′ bs : List ℕ) (r : Bool) → as′ ≡ xs → bs ≡ ys → Decides r (as′ ≡ bs) → r ≡ sameBytes xs ys
-alike-told xs ys as′ bs r p q d =
-    same-from-decides r (sameBytes xs ys) ((λ t. sym p ∙ d .0 t ∙ q), (λ e. d .1 (p ∙ e ∙ sym q))) (sameBytes-decides xs ys)
+pub alike-told : (xs ys : List ℕ) (r : Bool) → Decides r (xs ≡ ys) → r ≡ sameBytes xs ys
+alike-told xs ys r d = same-from-decides r (sameBytes xs ys) d (sameBytes-decides xs ys)
 
 either : (a b : ℕ) → (a ≤ b) ⊎ (b ≤ a)
 either a b = go (leb a b) refl

@@ -12,7 +12,7 @@ pub use names::part;
 pub use reader::check_length;
 
 // What a token is.
-#[derive(Clone, Copy)]
+#[derive(Clone, Copy, PartialEq)]
 pub enum Kind {
     Semicolon,
     Comma,

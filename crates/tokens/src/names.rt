@@ -15,11 +15,18 @@ pub fn part(text: &[u8], place: usize, len: usize) -> &[u8]
     &rest[0..to]
 }
 
+// Whether two words are the same.
+fn alike(a: &[u8], b: &[u8]) -> bool
+    ensures same { λ r. ⌜ r ≡ sameBytes (now (a .entry)) (now (b .entry)) ⌝ }
+{
+    a == b
+}
+
 // Whether a name of the text is spelled as a word.
 fn spells(text: &[u8], name: Name, word: &[u8]) -> bool
     ensures same { λ r. ⌜ r ≡ sameBytes (spelled (now (text .entry)) (name .place) (name .len)) (now (word .entry)) ⌝ }
 {
-    part(text, name.place, name.len) == word
+    alike(part(text, name.place, name.len), word)
 }
 
 // The number of the name that is spelled as a word, or the count of names.

@@ -1,0 +1,4 @@
+mod Places
+mod Standings
+mod Fitting
+mod Opened

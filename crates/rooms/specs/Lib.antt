@@ -1,0 +1,4 @@
+pub mod Entries
+pub mod Exact
+pub mod First
+pub mod Taken

@@ -1,0 +1,14 @@
+pub mod Among
+pub mod Automaton
+pub mod Decided
+pub mod Rows
+pub mod Nesting
+pub mod Fresh
+pub mod Scan
+pub mod Cases
+pub mod Counts
+pub mod Reader
+pub mod Within
+pub mod Steps
+pub mod Numbers
+pub mod Admit

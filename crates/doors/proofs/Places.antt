@@ -25,15 +25,14 @@ room-none : (a : ℕ) → 64 ≤ a → room a ≡ 0
 room-none a h = ap (λ b. cond {A = ℕ} b 32 0) (le-ltb a 64 h)
 
 module _ (r : Rows) where
+  row-short : (a : ℕ) → min (getD (r .counts) a 0) (room a) ≡ 0 → row r a ≡ []
+  row-short a e = ap (λ (n : ℕ). take n (drop (32 * a) (r .places))) e
+
   pub row-empty : r .counts ≡ replicate 64 0 → (a : ℕ) → row r a ≡ []
-  row-empty e a =
-      let z : min (getD (r .counts) a 0) (room a) ≡ 0 = omega (arith, ap (λ (xs : List ℕ). getD xs a 0) e ∙ zeros 64 a) in
-      ap (λ (n : ℕ). take n (drop (32 * a) (r .places))) z
+  row-empty e a = row-short a (omega (arith, ap (λ (xs : List ℕ). getD xs a 0) e ∙ zeros 64 a))
 
   pub row-none : (a : ℕ) → 64 ≤ a → row r a ≡ []
-  row-none a h =
-      let e : min (getD (r .counts) a 0) (room a) ≡ 0 = omega (arith, room-none a h) in
-      ap (λ (n : ℕ). take n (drop (32 * a) (r .places))) e
+  row-none a h = row-short a (omega (arith, room-none a h))
 
   pub row-inside : (a i : ℕ) → i < length (row r a) → (a < 64) × (i < 32) × (i < min (getD (r .counts) a 0) (room a))
   row-inside a i h = go (cases-lt a 64)

@@ -1,7 +1,7 @@
 ghost use mathlib.Core.Path.{_≡_};
 ghost use mathlib.Core.Bool.{cond};
 ghost use mathlib.Core.List.{[], _∷_, _++_};
-ghost use Prim.Native.Nat.{_<_, _≤_};
+ghost use Prim.Native.Nat.{_+_, _<_, _≤_};
 ghost use lib.Dec.{ltb};
 ghost use lib.ListN.{length, getD, set};
 ghost use Rattle.std.specs.Options.{Cases};
@@ -70,15 +70,34 @@ impl<'a, T: Copy> Table<'a, T> {
         self.count = 0;
     }
 
+    // The record at a number below the count.
+    fn record(&self, i: usize) -> T
+        requires { ⌜ i < now self .count ⌝ }
+        ensures inside { λ _. ⌜ i < length (contents (now (self .entry))) ⌝ }
+        ensures shown { λ r. ⌜ r ≡ getD (contents (now (self .entry))) i r ⌝ }
+    {
+        look(self.rows.places, i)
+    }
+
     // The record at a number below the count, otherwise none.
     pub fn get(&self, i: usize) -> Option<T>
         ensures shown { λ r. ⌜ Cases r (length (contents (now (self .entry))) ≤ i) (λ x. (i < length (contents (now (self .entry)))) × (x ≡ getD (contents (now (self .entry))) i x)) ⌝ }
     {
-        if i < self.count {
-            Some(look(self.rows.places, i))
+        if i < self.count() {
+            Some(self.record(i))
         } else {
             None
         }
+    }
+
+    // Adds a record at the end, where there is a place; `count` is the new count.
+    fn push(&mut self, item: T, count: usize)
+        requires { ⌜ count ≡ length (contents (now self)) + 1 ⌝ ∗ ⌜ count ≤ length (allPlaces (now self)) ⌝ }
+        ensures records { λ _. ⌜ contents (now (self .exit)) ≡ contents (now (self .entry)) ++ item ∷ [] ⌝ }
+        ensures places { λ _. ⌜ allPlaces (now (self .exit)) ≡ set (allPlaces (now (self .entry))) (length (contents (now (self .entry)))) item ⌝ }
+    {
+        self.rows.write(self.count, item);
+        self.count = count;
     }
 
     // Adds a record at the end; full exactly when the count equals the places. No other place is touched.
@@ -87,12 +106,11 @@ impl<'a, T: Copy> Table<'a, T> {
         ensures records { λ r. ⌜ contents (now (self .exit)) ≡ cond (isOk r) (contents (now (self .entry)) ++ item ∷ []) (contents (now (self .entry))) ⌝ }
         ensures places { λ r. ⌜ allPlaces (now (self .exit)) ≡ cond (isOk r) (set (allPlaces (now (self .entry))) (length (contents (now (self .entry)))) item) (allPlaces (now (self .entry))) ⌝ }
     {
-        let at = self.count;
-        if at == self.rows.places.len() {
+        let count = self.count();
+        if count >= self.places() {
             return Err(Full);
         }
-        self.rows.write(at, item);
-        self.count = at + 1;
+        self.push(item, count + 1);
         Ok(())
     }
 }

@@ -128,7 +128,7 @@ fn place_after(found: Result<Option<Token>, BytesFault>, place: usize, at: usize
 }
 
 // The token that comes next from a place on, and where the reading goes on.
-pub fn follow(text: &[u8], place: usize) -> (Result<Option<Token>, BytesFault>, usize)
+pub(crate) fn follow(text: &[u8], place: usize) -> (Result<Option<Token>, BytesFault>, usize)
     requires { ⌜ place ≤ length (now text) ⌝ }
     ensures found { λ r. ⌜ Found (next place (drop place (now (text .entry)))) (r .0) ⌝ }
     ensures moved { λ r. ⌜ Moved (length (now (text .entry))) place (r .1) (r .0) ⌝ }

@@ -1,5 +1,5 @@
 -- The automaton goes through the beginnings of sentences, and through nothing else.
-use mathlib.Core.Path.{_≡_, refl, sym, _∙_, ap, subst}
+use mathlib.Core.Path.{_≡_, refl, sym, _∙_, ap}
 use mathlib.Core.Logic.{_⊎_, inl, inr, _↔_, _≢_}
 use mathlib.Core.List.{List, [], _∷_, _++_, append-assoc, append-nil}
 use Prim.Native.Nat.{ℕ}
@@ -17,24 +17,24 @@ pub stays-stuck : (row : List Terminal) → run stuck row ≡ stuck
 stays-stuck [] = refl
 stays-stuck (t ∷ row) = stays-stuck row
 
-pub different-states : {s : State} → s ≡ stuck → s ≡ between → ⊥
+different-states : {s : State} → s ≡ stuck → s ≡ between → ⊥
 different-states p q = let z : _≡_ {A = ℕ} 0 1 = cc in omega arith
 
 -- ---- it goes through what a derivation yields
 mutual
-  pub through-sequence : (s : Sequence) (bs : List Bracket) (r : List Terminal) → run (before-element bs) (yield-sequence s ++ r) ≡ run (behind-element bs) r
+  through-sequence : (s : Sequence) (bs : List Bracket) (r : List Terminal) → run (before-element bs) (yield-sequence s ++ r) ≡ run (behind-element bs) r
   through-sequence (last l) bs r = through-selection l bs r
   through-sequence (l ⨟ s) bs r =
       ap (run (before-element bs)) (append-assoc (yield-selection l) (semicolon ∷ yield-sequence s) r)
       ∙ through-selection l bs (semicolon ∷ (yield-sequence s ++ r)) ∙ through-sequence s bs r
 
-  pub through-selection : (l : Selection) (bs : List Bracket) (r : List Terminal) → run (before-element bs) (yield-selection l ++ r) ≡ run (behind-element bs) r
+  through-selection : (l : Selection) (bs : List Bracket) (r : List Terminal) → run (before-element bs) (yield-selection l ++ r) ≡ run (behind-element bs) r
   through-selection (only e) bs r = through-element e bs r
   through-selection (e or l) bs r =
       ap (run (before-element bs)) (append-assoc (yield-element e) (comma ∷ yield-selection l) r)
       ∙ through-element e bs (comma ∷ (yield-selection l ++ r)) ∙ through-selection l bs r
 
-  pub through-element : (e : Element) (bs : List Bracket) (r : List Terminal) → run (before-element bs) (yield-element e ++ r) ≡ run (behind-element bs) r
+  through-element : (e : Element) (bs : List Bracket) (r : List Terminal) → run (before-element bs) (yield-element e ++ r) ≡ run (behind-element bs) r
   through-element (name n) bs r = refl
   through-element (round s) bs r =
       ap (run (before-element (round-bracket ∷ bs))) (append-assoc (yield-sequence s) (round-close ∷ []) r)
@@ -43,14 +43,14 @@ mutual
       ap (run (before-element (brace-bracket ∷ bs))) (append-assoc (yield-sequence s) (brace-close ∷ []) r)
       ∙ through-sequence s (brace-bracket ∷ bs) (brace-close ∷ r)
 
-pub through-path : (s : Sequence) (r : List Terminal) → run (before-element []) ((yield-sequence s ++ (end ∷ [])) ++ r) ≡ run between r
+through-path : (s : Sequence) (r : List Terminal) → run (before-element []) ((yield-sequence s ++ (end ∷ [])) ++ r) ≡ run between r
 through-path s r = ap (run (before-element [])) (append-assoc (yield-sequence s) (end ∷ []) r) ∙ through-sequence s [] (end ∷ r)
 
-pub through-text′ : (t : Text) → run between (yield-text t) ≡ between
+through-text′ : (t : Text) → run between (yield-text t) ≡ between
 through-text′ (one s) = through-sequence s [] (end ∷ [])
 through-text′ (more s t) = through-path s (yield-text t) ∙ through-text′ t
 
-pub through-text : (t : Text) → run start (yield-text t) ≡ between
+through-text : (t : Text) → run start (yield-text t) ≡ between
 through-text (one s) = through-sequence s [] (end ∷ [])
 through-text (more s t) = through-path s (yield-text t) ∙ through-text′ t
 

@@ -1,15 +1,12 @@
 -- Worked cases, from the definitions.
-use mathlib.Core.Path.{_≡_, refl}
-use mathlib.Core.List.{List, [], _∷_, _++_}
-use Prim.Native.Nat.{ℕ, _≤_}
+use mathlib.Core.Path.{refl}
+use mathlib.Core.List.{[], _∷_}
+use Prim.Native.Nat.{_≤_}
 use lib.Chars.{codes}
 use lib.Dec.{lit≤}
-use lib.ListN.{take, drop, length}
-use Rattle.tokens.specs.declared.Kind.the-variants.{Semicolon, Comma, RoundOpen, RoundClose, BraceOpen, BraceClose, Path, End, Name}
-use Rattle.tokens.specs.declared.Token.{Token}
-use Rattle.tokens.specs.Tokens.{token, tokens}
-use Rattle.rules.specs.Names.{terminals}
-use Rattle.rules.specs.Rules.{begins-sentence, open-brackets, open-braces, name-once}
+use Rattle.tokens.specs.declared.Kind.the-variants.{Semicolon, BraceOpen, BraceClose, Path, End, Name}
+use Rattle.tokens.specs.Tokens.{token}
+use Rattle.rules.specs.Rules.{begins-sentence, open-braces, name-once}
 use Rattle.rules.specs.Faults.{First-fault, at-token, at-byte, at-name, at-end-of-text, Cases}
 use Rattle.rules.proofs.Decided.{kept, told, sentence-no}
 

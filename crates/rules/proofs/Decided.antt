@@ -1,15 +1,15 @@
 -- Which rule a row breaks is decided.
 use mathlib.Core.Path.{_≡_, refl, sym, _∙_, ap, subst}
-use mathlib.Core.Logic.{_⊎_, inl, inr, _↔_, _≢_}
-use mathlib.Core.Bool.{Bool, true, false, cond, not, _&&_, _||_}
+use mathlib.Core.Logic.{_⊎_, inl, inr, _≢_}
+use mathlib.Core.Bool.{Bool, true, false, cond, not, _&&_}
 use mathlib.Core.List.{List, [], _∷_, _++_, append-assoc, append-nil}
-use Prim.Native.Nat.{ℕ, suc, _-_, _<_, _≤_}
+use Prim.Native.Nat.{ℕ, suc, _-_, _<_}
 use native.Mathlib.Omega.{arith}
 use native.Mathlib.Decide.{decLt}
 use lib.Dec.{ltb, eqb}
 use lib.ListN.{length}
 use borrow.Author.Tests.{ltb-true, ltb-false, lt-ltb, both-ways}
-use Rattle.paths.specs.Grammar.{Terminal, Begins, Sentence}
+use Rattle.paths.specs.Grammar.{Terminal, Sentence}
 use Rattle.rules.specs.Automaton.{State, start, between, before-element, behind-element, stuck, run}
 use Rattle.paths.specs.Sizes.{how-many, paths}
 use Rattle.rules.specs.Rules.{opened, closed, names-of, own-from, different}

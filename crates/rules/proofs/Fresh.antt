@@ -1,8 +1,8 @@
 -- No name stands twice in its path, along a row and in a derivation.
-use mathlib.Core.Path.{_≡_, refl, sym, _∙_, ap, subst}
+use mathlib.Core.Path.{_≡_, refl, sym, ap, subst}
 use mathlib.Core.List.{List, [], _∷_, _++_, append-assoc, append-nil}
 use Prim.Native.Nat.{ℕ}
-use Rattle.paths.specs.Grammar.{Terminal, semicolon, comma, round-open, round-close, brace-open, brace-close, path, end, word}
+use Rattle.paths.specs.Grammar.{Terminal, semicolon, comma, round-close, brace-close, end}
 use Rattle.paths.specs.Grammar.{Sequence, Selection, Element, Text, last, _⨟_, only, _or_, name, round, brace, one, more}
 use Rattle.paths.specs.Grammar.{yield-sequence, yield-selection, yield-element, yield-path, yield-text}
 use Rattle.paths.specs.Words.{Distinct, names-of-sequence, names-of-selection, names-of-element}

@@ -7,7 +7,7 @@ use Prim.Native.Nat.{ℕ, suc, _+_, _<_, _≤_}
 use native.Mathlib.Omega.{arith}
 use lib.Dec.{eqb, ltb}
 use lib.ListN.{length, getD, length-append, length-map}
-use borrow.Author.Tests.{both-ways, eqb-true, eqb-false, le-ltb, ltb-false}
+use borrow.Author.Tests.{eqb-true, eqb-false, le-ltb, ltb-false}
 use Rattle.std.specs.shelf.Lists.{leading}
 use Rattle.std.specs.shelf.Text.{sameBytes}
 use Rattle.std.proofs.shelf.Equals.{sameBytes-decides}
@@ -22,7 +22,7 @@ use Rattle.tokens.specs.declared.Token.{Token}
 use Rattle.tokens.specs.declared.Name.{Name as First}
 use Rattle.tokens.specs.Tokens.{spelled, spelling, number-of, tokens}
 use Rattle.rules.specs.Names.{is-name, first-of, with-first, firsts-from, firsts, terminal-of, terminal, terminals, Numbers-tell-names, Numbers-stay}
-use Rattle.rules.specs.Rules.{different, names-of, own-from, all-names, Kept}
+use Rattle.rules.specs.Rules.{different, names-of, own-from, all-names}
 use Rattle.rules.specs.Faults.{Derives, Room-enough, Names-numbered, Names-counted}
 use Rattle.rules.proofs.Among.{among-snoc, different-snoc}
 use Rattle.rules.proofs.Rows.{names-append, names-text}
@@ -85,7 +85,7 @@ module _ (text : List ℕ) where
   test-of known t c e h = rw h e
 
   -- a name's number is the one that it had when it was read
-  pub stable : (before after : List Token) (t : Token) → is-name (t .kind) ≡ true →
+  stable : (before after : List Token) (t : Token) → is-name (t .kind) ≡ true →
       number-of text (firsts text (before ++ (t ∷ after))) (spelling text t) ≡ number-of text (firsts text before) (spelling text t)
   stable before after t h = go (eqb (number-of text known (spelling text t)) (length known)) refl
     where
@@ -115,7 +115,7 @@ module _ (text : List ℕ) where
     pub below : (n : ℕ) → among n (names-of (terminals text before)) ≡ ltb n (length (firsts text before))
     pub count : different (names-of (terminals text before)) ≡ length (firsts text before)
 
-  pub names-one : (k : Kind) (n : ℕ) → names-of (terminal-of k n ∷ []) ≡ cond (is-name k) (n ∷ []) []
+  names-one : (k : Kind) (n : ℕ) → names-of (terminal-of k n ∷ []) ≡ cond (is-name k) (n ∷ []) []
   names-one Semicolon n = refl
   names-one Comma n = refl
   names-one RoundOpen n = refl

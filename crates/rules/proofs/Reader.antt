@@ -1,18 +1,17 @@
 -- The tokens of a text one by one are the tokens of the text.
 use mathlib.Core.Path.{_≡_, refl, sym, _∙_, ap, subst}
 use mathlib.Core.Bool.{Bool, true, false, cond}
-use mathlib.Core.List.{List, [], _∷_, _++_, append-assoc, append-nil}
-use Prim.Native.Nat.{ℕ, suc, _+_, _-_, _≤_, _<_}
+use mathlib.Core.List.{List, [], _∷_, _++_, append-assoc}
+use Prim.Native.Nat.{ℕ, suc, _+_, _-_, _≤_}
 use native.Mathlib.Nat.{add-zero}
 use native.Mathlib.Omega.{arith}
 use lib.Dec.{leb}
 use lib.ListN.{length, take, drop, length-drop}
 use Rattle.std.specs.shelf.Lists.{leading}
 use Rattle.std.proofs.shelf.Lists.{drop-drop}
-use Rattle.tokens.specs.declared.Kind.{Kind}
 use Rattle.tokens.specs.declared.Token.{Token}
-use Rattle.tokens.specs.Tokens.{Byte, blank, letter, digit, other, sign, byte, goes-on, in-name, word-kind, token, Stop, at-end, no-token, long-name, Row, stopped, then, word-first, row-at, row-from, row-of}
-use Rattle.tokens.specs.Reader.{Next, found, none, next-word, next-at, next}
+use Rattle.tokens.specs.Tokens.{Byte, blank, letter, digit, other, sign, byte, in-name, word-kind, token, Stop, no-token, long-name, Row, stopped, then, row-at, row-from, row-of}
+use Rattle.tokens.specs.Reader.{found, none, next-word, next-at, next}
 use Rattle.rules.specs.Reader.{onto, Reached}
 
 -- behind the front of a word, the tokens behind all of it
@@ -115,9 +114,6 @@ halts p (b ∷ bs) s h = go (byte b) refl (halts (suc p) bs s)
 onto-then : (before : List Token) (t : Token) (r : Row) → onto before (then t r) ≡ onto (before ++ (t ∷ [])) r
 onto-then before t r = let p = append-assoc before (t ∷ []) (r .tokens) in let q = sym p in λ i. record { tokens = q i; stop = r .stop }
 
-onto-stopped : (before : List Token) (s : Stop) → onto before (stopped s) .stop ≡ s
-onto-stopped before s = refl
-
 pub read-start : (text : List ℕ) → Reached text [] 0
 read-start text = (omega arith, refl)
 
@@ -132,26 +128,3 @@ reads-on text before q t r h =
 
 pub stops : (text : List ℕ) (before : List Token) (q : ℕ) (s : Stop) → Reached text before q → next q (drop q text) ≡ none s → row-of text ≡ onto before (stopped s)
 stops text before q s r h = r .1 ∙ ap (onto before) (halts q (drop q text) s h)
-
--- a token moves the reading on
-pub moves : (p : ℕ) (bs : List ℕ) (t : Token) → next p bs ≡ found t → p < t .place + t .len
-moves p [] t h = absurd (no-found h)
-moves p (b ∷ bs) t h = go (byte b) refl (moves (suc p) bs t)
-  where
-    at : Token → Type 0
-    at u = p < u .place + u .len
-    word : byte b ≡ letter → (x : Bool) → leb (leading in-name (b ∷ bs)) 16 ≡ x → next-word p (b ∷ bs) ≡ found t → p < t .place + t .len
-    word e true f g =
-        let n : leading in-name (b ∷ bs) ≡ 1 + leading in-name bs = ap (λ (k : Byte). cond (goes-on k) (1 + leading in-name bs) 0) e in
-        let i : token (word-kind (take (leading in-name (b ∷ bs)) (b ∷ bs))) p (leading in-name (b ∷ bs)) ≡ t = found-same (rw f at g) in
-        let P : Token → Type 0 = λ u. p < u .place + u .len in
-        subst P i (omega arith)
-    word e false f g = absurd (no-found {s = long-name p} (rw f at g))
-    go : (k : Byte) → byte b ≡ k → (next (suc p) bs ≡ found t → suc p < t .place + t .len) → p < t .place + t .len
-    go blank e i = let k = i (rw e at h) in omega arith
-    go letter e i = word e (leb (leading in-name (b ∷ bs)) 16) refl (rw e at h)
-    go digit e i = absurd (no-found {s = no-token p} (rw e at h))
-    go other e i = absurd (no-found {s = no-token p} (rw e at h))
-    go (sign k) e i =
-        let P : Token → Type 0 = λ u. p < u .place + u .len in
-        subst P (found-same (rw e at h)) (omega arith)

@@ -1,6 +1,6 @@
 -- A row keeps the rules exactly when its derivation is within the limits.
 use mathlib.Core.Path.{_≡_, refl, sym, _∙_, ap, subst}
-use mathlib.Core.Logic.{_⊎_, inl, inr, _↔_}
+use mathlib.Core.Logic.{_⊎_, inl, inr}
 use mathlib.Core.List.{List, [], _∷_, _++_, append-nil}
 use Prim.Native.Nat.{ℕ, _+_, _-_, _<_, _≤_}
 use native.Mathlib.Omega.{arith}
@@ -11,7 +11,7 @@ use Rattle.paths.specs.Sizes.{how-many, names, brackets, paths}
 use Rattle.paths.proofs.Unambiguous.{unambiguous}
 use Rattle.rules.specs.Rules.{opening, opened, closed, names-of, different, depth-of-text, Within, Limits-count}
 use Rattle.rules.specs.Rules.{Rule, begins-sentence, open-brackets, open-braces, name-once, all-paths, all-names, all-occurrences, all-brackets, Breaks, Kept}
-use Rattle.rules.specs.Faults.{Accepted, Derives, Derivable, Acceptance, One-derivation, First-fault}
+use Rattle.rules.specs.Faults.{Accepted, Derivable, Acceptance, One-derivation, First-fault}
 use Rattle.rules.proofs.Among.{sure, different-mono}
 use Rattle.rules.proofs.Rows.{many-append, names-append, names-text, brackets-text, paths-text}
 use Rattle.rules.proofs.Nesting.{Each, Low, Nested, low-prefix, prefix-low, low-text, text-low, all-sequence, braces-sequence}
@@ -58,7 +58,7 @@ kept-within t k =
       brackets = let e = brackets-text t in let h = all all-brackets in omega arith;
     }
 
-pub within-kept : (t : Text) → Within t → Kept (yield-text t)
+within-kept : (t : Text) → Within t → Kept (yield-text t)
 within-kept t w u v begins-sentence p h = h (v, (t, p))
 within-kept t w u v open-brackets p h =
     let l = low-prefix 1 1 16 u v 0 0 (omega arith) (subst (Low 1 1 16 0 0) p (text-low 1 1 16 t (depth-nested t (w .depth)))) in omega arith
@@ -94,7 +94,7 @@ acceptance text = (there (outcome text), back)
         (record { short = d .3; whole = d .1 .whole; keeps = subst Kept (d .1 .yields) (within-kept (d .0) (d .2)); sentence = (d .0, d .1 .yields) }) (f .1)
 
 -- ---- the limits, counted on the terminals
-count-names : (row : List Terminal) → how-many names row ≡ length (names-of row)
+pub count-names : (row : List Terminal) → how-many names row ≡ length (names-of row)
 count-names [] = refl
 count-names (semicolon ∷ row) = let i = count-names row in omega arith
 count-names (comma ∷ row) = let i = count-names row in omega arith

@@ -4,7 +4,7 @@ use mathlib.Core.Logic.{_↔_}
 use mathlib.Core.Bool.{Bool, true, false, cond, _&&_}
 use mathlib.Core.List.{List, [], _∷_, _++_, map}
 use Prim.Native.Nat.{ℕ}
-use lib.Dec.{eqb, ltb}
+use lib.Dec.{eqb}
 use lib.ListN.{length}
 use Rattle.paths.specs.Grammar.{Terminal, semicolon, comma, round-open, round-close, brace-open, brace-close, path, end, word}
 use Rattle.tokens.specs.declared.Kind.{Kind}

@@ -1,0 +1,4 @@
+mod Places
+mod Rows
+mod Tails
+mod Lawfuls

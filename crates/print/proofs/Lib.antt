@@ -1,0 +1,3 @@
+pub mod Joined
+pub mod Short
+pub mod Fits

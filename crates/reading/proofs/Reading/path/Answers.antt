@@ -1,0 +1,48 @@
+use mathlib.Core.Path.{sym, subst}
+use borrow.Author.Needs.{needs}
+use Rattle.std.proofs.shelf.Results.{err-from-errBy}
+use Rattle.reading.specs.declared.GrammarFault.{GrammarFault}
+use Rattle.reading.specs.declared.ReadFault.the-variants.{Grammar}
+use Rattle.reading.specs.State.{together, Stuck-with, Failed}
+use Rattle.reading.proofs.Went.{refuse}
+use Rattle.reading.proofs.Going.{then-failed, by-path, within-path, no-end, path-over}
+use Rattle.reading.proofs.Reading.path.Needs as need
+
+pub returns-in-rest : need.returns-in-rest
+returns-in-rest c =
+    let d = together (c .args .self .now) (c .args .tokens .now) (c .args .names .now) in
+    let s : Stuck-with d (c .args .self .now .ahead) = search needs in
+    record { path = subst (λ (g : GrammarFault). Failed d d (Grammar g)) (sym (c .refusal .ensures .refused)) (refuse d (c .pre .0) s) }
+
+pub returns-in-Break-sequence : need.returns-in-Break-sequence
+returns-in-Break-sequence c =
+    let d = together (c .args .self .now) (c .args .tokens .now) (c .args .names .now) in
+    let e = together (c .advance .last .self) (c .advance .last .tokens) (c .advance .last .names) in
+    let f = together (c .sequence .last .self) (c .sequence .last .tokens) (c .sequence .last .names) in
+    let p = err-from-errBy (c .from-residual-in-Break-sequence .result) (c .from-residual-in-Break-sequence .ensures .1) in
+    record {
+      path = rw (p .1, p .2) (then-failed d e f (c .in-Break-sequence .field-0 .0) (c .in-Continue-advance .ensures tt .advanced .onward) (c .in-Break-sequence .ensures tt .sequence));
+    }
+
+pub returns-in-rest-ahead-is : need.returns-in-rest-ahead-is
+returns-in-rest-ahead-is c =
+    let d = together (c .args .self .now) (c .args .tokens .now) (c .args .names .now) in
+    let e = together (c .advance .last .self) (c .advance .last .tokens) (c .advance .last .names) in
+    let f = together (c .sequence .last .self) (c .sequence .last .tokens) (c .sequence .last .names) in
+    let q = c .in-Continue-sequence .ensures tt .sequence in
+    let p = by-path d (c .args .self .now .ahead) (c .in-Some .first) (c .pre .1) (c .in-Some .ensures tt .ahead .1) in
+    let w = within-path d e f _ (c .in-Continue-advance .ensures tt .advanced) p (q .0) in
+    let s = no-end f (f .reading .ahead) (w .stands) (q .1) (q .2) (c .in-rest-ahead-is .ensures tt .ahead) in
+    record {
+      path = subst (λ (g : GrammarFault). Failed d f (Grammar g)) (sym (c .refusal-in-rest-ahead-is .ensures .refused)) (then-failed d f f _ (w .onward) (refuse f (w .ready) s));
+    }
+
+pub returns : need.returns
+returns c =
+    let d = together (c .args .self .now) (c .args .tokens .now) (c .args .names .now) in
+    let e = together (c .advance .last .self) (c .advance .last .tokens) (c .advance .last .names) in
+    let f = together (c .sequence .last .self) (c .sequence .last .tokens) (c .sequence .last .names) in
+    let g = together (c .advance-2 .last .self) (c .advance-2 .last .tokens) (c .advance-2 .last .names) in
+    let p = by-path d (c .args .self .now .ahead) (c .in-Some .first) (c .pre .1) (c .in-Some .ensures tt .ahead .1) in
+    let w = within-path d e f _ (c .in-Continue-advance .ensures tt .advanced) p (c .in-Continue-sequence .ensures tt .sequence .0) in
+    record { path = path-over d f g (c .in-Some-ahead-is .last) (c .advance-2 .result) w (c .in-Some-ahead-is .ensures tt .ahead .1) (c .advance-2 .ensures .advanced) }

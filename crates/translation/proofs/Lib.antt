@@ -1,0 +1,5 @@
+pub mod Lists
+pub mod Scan
+pub mod Spelled
+pub mod Readers
+pub mod Translating

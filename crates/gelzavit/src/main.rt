@@ -19,10 +19,22 @@ use translation::translate;
 
 // Prints the doors of a text, or its fault.
 fn print_text(text: &[u8], page: &mut [u8]) -> Result<usize, SmallPage> {
-    let mut tokens = [Token { kind: Kind::End, place: 0, len: 0 }; 1_088];
+    let mut tokens = [Token {
+        kind: Kind::End,
+        place: 0,
+        len: 0,
+    }; 1_088];
     let mut names = [Name { place: 0, len: 0 }; 64];
-    let door = Door { semaphore: 0, counter: None };
-    let mut occurrences = [Occurrence { path: 0, operation: 0, left: door, right: door }; 256];
+    let door = Door {
+        semaphore: 0,
+        counter: None,
+    };
+    let mut occurrences = [Occurrence {
+        path: 0,
+        operation: 0,
+        left: door,
+        right: door,
+    }; 256];
     let mut tokens = Table::new(&mut tokens);
     let mut names = Table::new(&mut names);
     let mut occurrences = Table::new(&mut occurrences);

@@ -2,7 +2,7 @@
 use mathlib.Core.Path.{_≡_}
 use mathlib.Core.Logic.{_≢_}
 use mathlib.Core.List.{List}
-use Prim.Native.Nat.{ℕ, _≤_, _<_}
+use Prim.Native.Nat.{ℕ, _<_}
 use lib.ListN.{length, getD, take, drop}
 use Rattle.std.specs.shelf.Lists.{All}
 use Rattle.input.specs.declared.LineReader.{LineReader}
@@ -17,6 +17,5 @@ unread r = drop (r .place) (r .bytes .now)
 
 -- the first n bytes are a line: no byte 10 is among them, and one or the end follows
 pub record Line-length (bytes : List ℕ) (n : ℕ) : Type 0 where
-  pub reach : n ≤ length bytes
   pub within : All (λ b. b ≢ 10) (take n bytes)
   pub ends : n < length bytes → getD bytes n 0 ≡ 10

@@ -43,7 +43,10 @@ impl<'a, T: Copy> Table<'a, T> {
         ensures empty { λ r. ⌜ contents r ≡ [] ⌝ }
         ensures places { λ r. ⌜ allPlaces r ≡ now (places .entry) ⌝ }
     {
-        Table { rows: Rows { places }, count: 0 }
+        Table {
+            rows: Rows { places },
+            count: 0,
+        }
     }
 
     // How many records there are.

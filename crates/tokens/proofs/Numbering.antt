@@ -53,9 +53,11 @@ cut text place len from to p q₀ =
   where
     q : to ≡ min len (min (length text - from) (length text - from))
     q = simp (length-take, length-drop) at q₀
+
     by-order : (place ≤ length text) ⊎ (length text ≤ place) → drop from text ≡ drop place text
     by-order (inl h) = let e : from ≡ place = omega arith in ap (λ k. drop k text) e
     by-order (inr h) = let g : length text ≤ from = omega arith in drop-all from text g ∙ sym (drop-all place text h)
+
     same-take : (len ≤ length (drop place text)) ⊎ (length (drop place text) ≤ len) → take to (drop place text) ≡ take len (drop place text)
     same-take (inl h) = let k = length-drop place text in let e : to ≡ len = omega (arith, q) in ap (λ j. take j (drop place text)) e
     same-take (inr h) = let k = length-drop place text in let g : length (drop place text) ≤ to = omega (arith, q) in take-all to (drop place text) g ∙ sym (take-all len (drop place text) h)

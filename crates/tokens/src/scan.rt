@@ -95,7 +95,11 @@ fn scan_word(rest: &[u8], at: usize) -> Result<Option<Token>, BytesFault>
     if len > 16 {
         return Err(BytesFault::LongName(at));
     }
-    Ok(Some(Token { kind: word_kind(&rest[..len]), place: at, len }))
+    Ok(Some(Token {
+        kind: word_kind(&rest[..len]),
+        place: at,
+        len,
+    }))
 }
 
 // The token that the rest begins with, which is no blank; the rest stands at `at` of the text.
@@ -108,14 +112,23 @@ fn scan_token(rest: &[u8], at: usize) -> Result<Option<Token>, BytesFault>
         return Ok(None);
     }
     match class(rest[0]) {
-        Class::Sign(kind) => Ok(Some(Token { kind, place: at, len: 1 })),
+        Class::Sign(kind) => Ok(Some(Token {
+            kind,
+            place: at,
+            len: 1,
+        })),
         Class::Letter => scan_word(rest, at),
         Class::Blank | Class::Digit | Class::Other => Err(BytesFault::NoToken(at)),
     }
 }
 
 // Where the reading goes on: behind a token, else where it was.
-fn place_after(found: Result<Option<Token>, BytesFault>, place: usize, at: usize, len: usize) -> usize
+fn place_after(
+    found: Result<Option<Token>, BytesFault>,
+    place: usize,
+    at: usize,
+    len: usize,
+) -> usize
     requires { ⌜ (place ≤ at) × (at ≤ len) × Inside at (len - at) found ⌝ }
     ensures moved { λ r. ⌜ Moved len place r found ⌝ }
     ensures bound { λ r. ⌜ r ≤ len ⌝ }

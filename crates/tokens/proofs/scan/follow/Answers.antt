@@ -6,7 +6,7 @@ scan-token-found-requires c κs = solid-rest (c .args .text .now) (c .args .plac
 
 pub returns : need.returns
 returns c = record {
-    found = next-is (c .args .text .now) (c .args .place) (c .blanks-len .result) (c .scan-token-found .result) (c .blanks-len .ensures .passed) (c .scan-token-found .ensures .found);
-    moved = c .place-after .ensures .moved;
-    bound = c .place-after .ensures .bound;
-  }
+  found = next-is (c .args .text .now) (c .args .place) (c .blanks-len .result) (c .scan-token-found .result) (c .blanks-len .ensures .passed) (c .scan-token-found .ensures .found);
+  moved = c .place-after .ensures .moved;
+  bound = c .place-after .ensures .bound;
+}

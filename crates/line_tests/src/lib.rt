@@ -1,0 +1,5 @@
+// Odd lines and odd inputs, run.
+#[cfg(test)]
+mod inputs;
+#[cfg(test)]
+mod orders;

@@ -1,0 +1,11 @@
+pub mod Sets
+pub mod Histories
+pub mod Tables
+pub mod Steps
+pub mod Begins
+pub mod Ends
+pub mod Withdrawals
+pub mod Openings
+pub mod Unique
+pub mod Carrying
+pub mod Wholes

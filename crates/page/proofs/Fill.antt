@@ -38,6 +38,7 @@ over-append ds bs old n e = go (either (length ds) (length old))
   where
     long : length (ds ++ bs) ≡ length ds + length bs
     long = length-append ds bs
+
     go : (length ds ≤ length old) ⊎ (length old ≤ length ds) → over (ds ++ bs) old ≡ take n (over ds old) ++ over bs (drop n (over ds old))
     go (inl h) =
         let is : length ds ≡ n = omega (arith, e) in
@@ -84,8 +85,10 @@ copied bs old part n e p = record { holds = go (either (length bs) (length old))
   where
     same : n - 0 ≡ n
     same = omega arith
+
     start : part ++ drop (n - 0) old ≡ take n bs ++ drop n old
     start = (λ i. p i ++ drop (n - 0) old) ∙ ap (λ k. take k bs ++ drop k old) same
+
     go : (length bs ≤ length old) ⊎ (length old ≤ length bs) → part ++ drop (n - 0) old ≡ over bs old
     go (inl h) = let is : n ≡ length bs = omega (arith, e) in start ∙ ap (λ k. take k bs ++ drop k old) is ∙ ap (λ l. l ++ drop (length bs) old) (take-all (length bs) bs (omega arith)) ∙ sym (over-fits bs old h)
     go (inr h) = let is : n ≡ length old = omega (arith, e) in start ∙ ap (λ k. take k bs ++ drop k old) is ∙ ap (λ l. take (length old) bs ++ l) (drop-all (length old) old (omega arith)) ∙ append-nil (take (length old) bs) ∙ sym (over-cut bs old h)

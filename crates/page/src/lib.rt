@@ -24,7 +24,11 @@ impl SmallPage {
 pub fn check_page(page: &[u8]) -> Result<(), SmallPage>
     ensures checked { λ r. ⌜ isOk r ≡ leb 16384 (length (now (page .entry))) ⌝ }
 {
-    if page.len() < 16384 { Err(SmallPage) } else { Ok(()) }
+    if page.len() < 16384 {
+        Err(SmallPage)
+    } else {
+        Ok(())
+    }
 }
 
 // How many bytes fit.

@@ -68,11 +68,11 @@ doors-fit text t w =
     let few = doors-are-few t in
     let many = limits-count t w in
     let small : (o : TheOccurrence) → List·Memᴰ o (text-doors t 0 0 0) → length (line text (firsts text (tokens text)) o) ≤ 44 =
-          λ o m. let s : how-many semaphores (yield-text t) ≤ 256 = omega arith in
-                 let c : how-many counters (yield-text t) ≤ 256 = omega arith in
-                 let p = few .path-numbers o m in
-                 line-length text (firsts text (tokens text)) (short-name text) o (omega arith)
-                   (below-more _ _ (o .left) s c (few .numbers o m .0)) (below-more _ _ (o .right) s c (few .numbers o m .1)) in
+    λ o m. let s : how-many semaphores (yield-text t) ≤ 256 = omega arith in
+    let c : how-many counters (yield-text t) ≤ 256 = omega arith in
+    let p = few .path-numbers o m in
+    line-length text (firsts text (tokens text)) (short-name text) o (omega arith)
+    (below-more _ _ (o .left) s c (few .numbers o m .0)) (below-more _ _ (o .right) s c (few .numbers o m .1)) in
     let all = lines-length text (firsts text (tokens text)) (short-name text) (text-doors t 0 0 0) small in
     omega (arith, few .occurrences)
 

@@ -30,6 +30,7 @@ short-at letter false place bs rest h = go (leb n 16) refl
   where
     n : ℕ
     n = leading in-name bs
+
     go : (x : Bool) → leb n 16 ≡ x → Short-tokens (cond x (then (token (word-kind (take n bs)) place n) (rest true)) (stopped (long-name place)) .tokens)
     go true e = (leb-true n 16 e, h true)
     go false e = tt

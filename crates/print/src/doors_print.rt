@@ -34,12 +34,21 @@ fn put_line(page: &mut [u8], text: &[u8], names: &Table<Name>, occurrence: Occur
 {
     let space = put_number(page, occurrence.path as usize);
     let name = space + put(&mut page[space..], b" ");
-    let doors = name + put(&mut page[name..], name_bytes(text, names, occurrence.operation as usize));
+    let doors = name
+        + put(
+            &mut page[name..],
+            name_bytes(text, names, occurrence.operation as usize),
+        );
     doors + put_passage(&mut page[doors..], occurrence.left, occurrence.right)
 }
 
 // Writes the lines of all occurrences.
-fn put_lines(page: &mut [u8], text: &[u8], names: &Table<Name>, occurrences: &Table<Occurrence>) -> usize
+fn put_lines(
+    page: &mut [u8],
+    text: &[u8],
+    names: &Table<Name>,
+    occurrences: &Table<Occurrence>,
+) -> usize
     ensures written { λ r. ⌜ Written (lines (now (text .entry)) (contents (now (names .entry))) (all-told (contents (now (occurrences .entry))))) (now (page .entry)) (now (page .exit)) r ⌝ }
 {
     let mut at = 0;
@@ -54,7 +63,12 @@ fn put_lines(page: &mut [u8], text: &[u8], names: &Table<Name>, occurrences: &Ta
 
 // Prints the doors of a text, one line an occurrence, and answers how many bytes; refuses a page under 16,384 bytes.
 // Whatever the tables hold, the lines are cut where the page ends; those of an accepted text fit.
-pub fn print_doors(page: &mut [u8], text: &[u8], names: &Table<Name>, occurrences: &Table<Occurrence>) -> Result<usize, SmallPage>
+pub fn print_doors(
+    page: &mut [u8],
+    text: &[u8],
+    names: &Table<Name>,
+    occurrences: &Table<Occurrence>,
+) -> Result<usize, SmallPage>
     ensures checked { λ r. ⌜ isOk r ≡ leb 16384 (length (now (page .entry))) ⌝ }
     ensures put { λ r. ⌜ Put (lines (now (text .entry)) (contents (now (names .entry))) (all-told (contents (now (occurrences .entry))))) (now (page .entry)) (now (page .exit)) r ⌝ }
     ensures whole { λ r. ⌜ ((t : Text) → Doors-of (now (text .entry)) (now (names .entry)) (now (occurrences .entry)) t → Printed (doors-print (now (text .entry)) t) (now (page .entry)) (now (page .exit)) r) ⌝ }

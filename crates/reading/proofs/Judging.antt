@@ -36,7 +36,7 @@ use Rattle.reading.specs.declared.GrammarFault.the-variants.{Bytes, Unexpected
 use Rattle.reading.specs.declared.ReadFault.{ReadFault}
 use Rattle.reading.specs.declared.ReadFault.the-variants.{Grammar, Rule, TooFewPlaces}
 use Rattle.reading.specs.Outcome.{Enough, Rest-same, Tells, Counts-of, Text-read, Answered}
-use Rattle.reading.specs.State.{Rest-kept, Own, Desk, together, bytes, taken, row, standing, Follows, Counted, Ready, Failed, Looked, Looks, None-counted, Unread, At-start, Begun}
+use Rattle.reading.specs.State.{Rest-kept, Own, Desk, together, bytes, taken, row, standing, Follows, Counted, Ready, Failed, Went, Looked, Looks, None-counted, Unread, At-start, Begun}
 use Rattle.reading.proofs.Names.{no-names}
 
 -- ---- the start
@@ -63,13 +63,13 @@ module _ (r r′ : Reading) (u : Unread (r .text .now) r) (short : length (r .te
 
   pub begun : (res : Result (Unit {0}) GrammarFault) → Looked r r′ res → Begun text r′ res
   begun (Ok v) l = record {
-      short = short;
-      text-is = ap (λ z. z .now) (looks .text);
-      source-is = looks .source ∙ u .source-is;
-      follows = first (r′ .ahead) refl l;
-      counts = subst None-counted (sym (looks .counts)) (u .counts);
-      own = looks .own ∙ u .own;
-    }
+    short = short;
+    text-is = ap (λ z. z .now) (looks .text);
+    source-is = looks .source ∙ u .source-is;
+    follows = first (r′ .ahead) refl l;
+    counts = subst None-counted (sym (looks .counts)) (u .counts);
+    own = looks .own ∙ u .own;
+  }
   begun (Err (Bytes TooLong)) l = absurd l
   begun (Err (Bytes (NoToken p))) l = (p, refl, refused-byte text [] short kept-nil p (no-first (no-token p) l))
   begun (Err (Bytes (LongName p))) l = (p, refl, refused-name text [] short kept-nil p (no-first (long-name p) l))
@@ -93,14 +93,14 @@ module _ (text : List ℕ) (r : Reading) (ts : Table Token) (ns : Table First) (
         short = (let l = ap length (a .text-is) in let s = a .short in omega arith);
         source = a .source-is ∙ sym (a .text-is);
         follows = subst (λ (x : List ℕ). Follows x (contents ts) (r .source .place) (r .ahead)) (sym (a .text-is))
-          (subst (λ (before : List Token). Follows text before (r .source .place) (r .ahead)) (sym e) (a .follows));
+            (subst (λ (before : List Token). Follows text before (r .source .place) (r .ahead)) (sym e) (a .follows));
         kept = subst Kept (sym no-row) kept-nil;
         few = (let l = ap length e in omega arith);
         listed = f ∙ ap (firsts (bytes at-start)) (sym e);
         token-places = n .0;
         name-places = n .1;
         counted = subst (Counted (r .counts)) (sym no-row)
-          (record { paths = c .paths; occurrences = c .occurrences; brackets = c .brackets; depth = (let z = c .depth in omega arith); braces = (let z = c .braces in omega arith) });
+            (record { paths = c .paths; occurrences = c .occurrences; brackets = c .brackets; depth = (let z = c .depth in omega arith); braces = (let z = c .braces in omega arith) });
         own = subst (λ (l : List Terminal). Own (r .own) (own-from [] l)) (sym no-row) (no-names (r .own) (a .own));
       }
 
@@ -122,30 +122,39 @@ pub answer-none : (text x : List ℕ) (ts ts0 : Table Token) (ns ns0 : Table Fir
     Tells x [] (Grammar g) → Answered text ts ns ts0 ns0 (Err (Grammar g))
 answer-none text x ts ts0 ns ns0 g e n p q k =
     answer-fault text ts ts0 ns ns0 (Grammar g) n
-      (subst (λ (before : List Token). Tells text before (Grammar g)) (sym p) (subst (λ (t : List ℕ). Tells t [] (Grammar g)) e k)) (q ∙ ap (firsts text) (sym p))
+    (subst (λ (before : List Token). Tells text before (Grammar g)) (sym p) (subst (λ (t : List ℕ). Tells t [] (Grammar g)) e k)) (q ∙ ap (firsts text) (sym p))
 
 -- a reader failed
-pub answer-failed : (text : List ℕ) (ts : Table Token) (ns : Table First) (d d′ : Desk) (f : ReadFault) → bytes d ≡ text → Enough ts ns → Failed d d′ f →
-    Answered text ts ns (d′ .tokens) (d′ .names) (Err f)
-answer-failed text ts ns d d′ f e n k =
+pub answer-failed : (text : List ℕ) (ts : Table Token) (ns : Table First) (d d′ : Desk) (x : List ℕ) (f : ReadFault) → bytes d ≡ x → x ≡ text → Enough ts ns →
+    Failed d d′ f → Answered text ts ns (d′ .tokens) (d′ .names) (Err f)
+answer-failed text ts ns d d′ x f o q n k =
+    let e = o ∙ q in
     answer-fault text ts (d′ .tokens) ns (d′ .names) f n (subst (λ (t : List ℕ). Tells t (taken d′) f) e (k .tells)) (k .listed ∙ ap (λ (t : List ℕ). firsts t (taken d′)) e)
 
 -- all is read
-pub answer-read : (text : List ℕ) (d : Desk) (x : Read) → bytes d ≡ text → Ready d → standing d ≡ between → d .reading .ahead ≡ None →
-    x .paths ≡ d .reading .counts .paths → x .names ≡ length (contents (d .names)) → x .occurrences ≡ d .reading .counts .occurrences → Text-read text (d .tokens) (d .names) x
-answer-read text d x e h s o p q w = subst (λ (t : List ℕ). Text-read t (d .tokens) (d .names) x) e there
+pub answer-read : (text : List ℕ) (d d′ : Desk) (y : List ℕ) (x : Read) → bytes d ≡ y → y ≡ text → Went d d′ between → d′ .reading .ahead ≡ None →
+    x .paths ≡ d′ .reading .counts .paths → x .names ≡ length (contents (d′ .names)) → x .occurrences ≡ d′ .reading .counts .occurrences →
+    Text-read text (d′ .tokens) (d′ .names) x
+answer-read text d d′ y x e f went o p q w = subst (λ (t : List ℕ). Text-read t (d′ .tokens) (d′ .names) x) (went .onward .same ∙ e ∙ f) there
   where
-    over : Derivable (bytes d) × (tokens (bytes d) ≡ taken d)
-    over = derived (bytes d) (taken d) (h .short) (h .kept) (subst (Follows (bytes d) (taken d) (d .reading .source .place)) o (h .follows)) s
-    names-now : contents (d .names) ≡ firsts (bytes d) (tokens (bytes d))
-    names-now = h .listed ∙ ap (firsts (bytes d)) (sym (over .1))
-    yields-row : (t : Text) → Derives (bytes d) t → yield-text t ≡ row d
-    yields-row t k = k .yields ∙ ap (terminals (bytes d)) (over .1)
-    counts-of : (t : Text) → Derives (bytes d) t → Counts-of x t
+    h : Ready d′
+    h = went .ready
+
+    over : Derivable (bytes d′) × (tokens (bytes d′) ≡ taken d′)
+    over = derived (bytes d′) (taken d′) (h .short) (h .kept) (subst (Follows (bytes d′) (taken d′) (d′ .reading .source .place)) o (h .follows)) (went .stands)
+
+    names-now : contents (d′ .names) ≡ firsts (bytes d′) (tokens (bytes d′))
+    names-now = h .listed ∙ ap (firsts (bytes d′)) (sym (over .1))
+
+    yields-row : (t : Text) → Derives (bytes d′) t → yield-text t ≡ row d′
+    yields-row t k = k .yields ∙ ap (terminals (bytes d′)) (over .1)
+
+    counts-of : (t : Text) → Derives (bytes d′) t → Counts-of x t
     counts-of t k = record {
-        paths = p ∙ h .counted .paths ∙ ap (how-many paths) (sym (yields-row t k)) ∙ paths-text t;
-        names = q ∙ ap length names-now ∙ sym (names-counted (bytes d) t k);
-        occurrences = w ∙ h .counted .occurrences ∙ ap (λ (l : List Terminal). length (names-of l)) (sym (yields-row t k)) ∙ ap length (names-text t);
-      }
-    there : Text-read (bytes d) (d .tokens) (d .names) x
+      paths = p ∙ h .counted .paths ∙ ap (how-many paths) (sym (yields-row t k)) ∙ paths-text t;
+      names = q ∙ ap length names-now ∙ sym (names-counted (bytes d′) t k);
+      occurrences = w ∙ h .counted .occurrences ∙ ap (λ (l : List Terminal). length (names-of l)) (sym (yields-row t k)) ∙ ap length (names-text t);
+    }
+
+    there : Text-read (bytes d′) (d′ .tokens) (d′ .names) x
     there = record { derivable = over .0; tokens-are = sym (over .1); names-are = names-now; counts = counts-of }

@@ -22,15 +22,15 @@ use Rattle.tokens.specs.Tokens.{spelling, number-of}
 use Rattle.rules.specs.Names.{is-name, first-of, with-first, terminal-of}
 use Rattle.rules.proofs.Among.{among-snoc}
 use Rattle.reading.specs.declared.Reading.{Reading}
-use Rattle.reading.specs.State.{Rest-kept, Name-told, known-as, marked, Own, Path-counted, Counted-token}
+use Rattle.reading.specs.State.{Rest-kept, One-path, Name-told, known-as, marked, Own, Path-counted, Counted-token}
 
 -- ---- the marks
 -- one name more
 own-more : (own : List Bool) (ns : List ℕ) (n : ℕ) → n < 64 → Own own ns → Own (set own n true) (ns ++ (n ∷ []))
 own-more own ns n l o = record {
-    wide = length-set own n true ∙ o .wide;
-    marks = λ m h. go m h (eqb m n) refl;
-  }
+  wide = length-set own n true ∙ o .wide;
+  marks = λ m h. go m h (eqb m n) refl;
+}
   where
     go : (m : ℕ) → m < 64 → (b : Bool) → eqb m n ≡ b → getD (set own n true) m false ≡ among m (ns ++ (n ∷ []))
     go m h true e =
@@ -51,20 +51,19 @@ pub no-names : (own : List Bool) → own ≡ replicate 64 false → Own own []
 no-names own e = subst (λ (m : List Bool). Own m []) (sym e) (record { wide = refl; marks = λ n k. no-marks 64 n })
 
 -- ---- a path
-pub path-counted : (r r′ : Reading) → r .counts .paths < 32 → r′ .text ≡ r .text → r′ .source ≡ r .source → r′ .own ≡ replicate 64 false →
-    r′ .counts .paths ≡ r .counts .paths + 1 → r′ .counts .occurrences ≡ r .counts .occurrences → r′ .counts .brackets ≡ r .counts .brackets →
-    r′ .counts .depth ≡ r .counts .depth → r′ .counts .braces ≡ r .counts .braces → Path-counted r r′ (Ok tt)
-path-counted r r′ l x s o p q w d e =
-    ( l
-    , record {
-        paths = p;
-        occurrences = (omega arith);
-        brackets = (omega arith);
-        depth = (omega arith);
-        braces = (omega arith);
-        own = λ ns h. no-names (r′ .own) o;
-      }
-    , record { text = x; source = s })
+pub path-counted : (r r′ : Reading) → One-path (r .counts) (r′ .counts) → r′ .text ≡ r .text → r′ .source ≡ r .source → r′ .own ≡ replicate 64 false → Path-counted r r′ (Ok tt)
+path-counted r r′ o x s e = (
+  o .room,
+  record {
+    paths = o .paths;
+    occurrences = (let z = o .occurrences in omega arith);
+    brackets = (let z = o .brackets in omega arith);
+    depth = (let z = o .depth in omega arith);
+    braces = (let z = o .braces in omega arith);
+    own = λ ns h. no-names (r′ .own) e;
+  },
+  record { text = x; source = s },
+)
 
 -- ---- a name
 module _ (r : Reading) (known known′ : Table First) (t : Token) (w : List ℕ) (n : ℕ) (b : Bool) (kind : t .kind ≡ Name)
@@ -85,16 +84,17 @@ module _ (r : Reading) (known known′ : Table First) (t : Token) (w : List ℕ)
       r′ .counts .occurrences ≡ r .counts .occurrences + 1 → r′ .counts .brackets ≡ r .counts .brackets → r′ .counts .depth ≡ r .counts .depth →
       r′ .counts .braces ≡ r .counts .braces → Counted-token (known-as (r .text .now) (contents known) t) t r known r′ known′ (Ok tt)
   name-counted r′ x s o p q w d e =
-      subst (λ (y : Terminal). Counted-token y t r known r′ known′ (Ok tt)) (sym as-word)
-        ( subst (λ (c : Bool). Name-told c n (r .counts .occurrences) None) mark told
-        , record {
-            paths = (omega arith);
-            occurrences = (omega arith);
-            brackets = (omega arith);
-            depth = (omega arith);
-            braces = (omega arith);
-            own = λ ns h. subst (λ (l : List Bool). Own l (ns ++ (n ∷ []))) (sym o) (own-more (r .own) ns n (told .1) h);
-          }
-        , record { text = x; source = s }
-        , listed
-        , rest)
+      subst (λ (y : Terminal). Counted-token y t r known r′ known′ (Ok tt)) (sym as-word) (
+        subst (λ (c : Bool). Name-told c n (r .counts .occurrences) None) mark told,
+        record {
+          paths = (omega arith);
+          occurrences = (omega arith);
+          brackets = (omega arith);
+          depth = (omega arith);
+          braces = (omega arith);
+          own = λ ns h. subst (λ (l : List Bool). Own l (ns ++ (n ∷ []))) (sym o) (own-more (r .own) ns n (told .1) h);
+        },
+        record { text = x; source = s },
+        listed,
+        rest,
+      )

@@ -25,10 +25,10 @@ module _ {T : Type 0} where
 
   pub kept-both : (t u v : Table T) → Rest-kept t u → Rest-kept u v → Rest-kept t v
   kept-both t u v h k = record {
-      places = k .places ∙ h .places;
-      grows = (let a = h .grows in let b = k .grows in omega arith);
-      rest = k .rest ∙ further (allPlaces u) (allPlaces t) (length (contents u)) (length (contents v)) (k .grows) (h .rest);
-    }
+    places = k .places ∙ h .places;
+    grows = (let a = h .grows in let b = k .grows in omega arith);
+    rest = k .rest ∙ further (allPlaces u) (allPlaces t) (length (contents u)) (length (contents v)) (k .grows) (h .rest);
+  }
 
   -- one record more
   pub record Added (t t′ : Table T) (x : T) : Type 0 where

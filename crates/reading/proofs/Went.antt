@@ -44,29 +44,36 @@ pub stay : (d : Desk) → Onward d d
 stay d = record { same = refl; tokens-kept = kept-same (d .tokens); names-kept = kept-same (d .names) }
 
 -- the grammar lets nothing stand that follows
-pub refuse : (d : Desk) → Ready d → Stuck-with d (d .reading .ahead) → Failed d d (Grammar (refused-by (d .reading .ahead) (length (bytes d))))
-refuse d h s = go (d .reading .ahead) (h .follows) s
+pub refuse : (d : Desk) (g : GrammarFault) → g ≡ refused-by (d .reading .ahead) (length (bytes d)) → Ready d → Stuck-with d (d .reading .ahead) → Failed d d (Grammar g)
+refuse d g p h s = subst (λ (x : GrammarFault). Failed d d (Grammar x)) (sym p) (go (d .reading .ahead) (h .follows) s)
   where
     go : (a : Option Token) → Follows (bytes d) (taken d) (d .reading .source .place) a → Stuck-with d a → Failed d d (Grammar (refused-by a (length (bytes d))))
     go None e s = record { onward = stay d; listed = h .listed; tells = (length (bytes d), refl, refused-short (bytes d) (taken d) (h .short) (h .kept) e s) }
     go (Some t) e s = record {
-        onward = stay d;
-        listed = h .listed;
-        tells = (t .place, refl,
-          refused-at (bytes d) (taken d) (h .short) (h .kept) t (d .reading .source .place) begins-sentence e
-            (tell-sentence _ (run-append start (row d) (terminal (bytes d) t ∷ []) ∙ s)));
-      }
+      onward = stay d;
+      listed = h .listed;
+      tells = (
+        t .place,
+        refl,
+        refused-at (bytes d) (taken d) (h .short) (h .kept) t (d .reading .source .place) begins-sentence e
+            (tell-sentence _ (run-append start (row d) (terminal (bytes d) t ∷ []) ∙ s)),
+      );
+    }
 
 -- ---- a limit is passed
 pub passes : (d : Desk) (t : Token) (h : Ready d) (f : Fits t d) (l : Limit) (r′ : Reading) (ns′ : Table First) →
     Not-allowed (terminal-now d t h f) (d .reading) l → r′ .text ≡ d .reading .text → ns′ ≡ d .names → Failed d (together r′ (d .tokens) ns′) (Rule l (t .place))
 passes d t h f l r′ ns′ n x s = record {
-    onward = record { same = ap (λ z. z .now) x; tokens-kept = kept-same (d .tokens); names-kept = subst (Rest-kept (d .names)) (sym s) (kept-same (d .names)) };
-    listed = ap contents s ∙ h .listed;
-    tells = (t .place, refl, subst (λ (m : ℕ). Refused (bytes d) (taken d) m (t .place)) (same-number l)
-      (refused-at (bytes d) (taken d) (h .short) (h .kept) t (d .reading .source .place) (rule-of l) (reached d t h f)
-        (subst (λ (y : Terminal). Told (rule-of l) (row d ++ (y ∷ []))) (sym (known d t h f)) (limit-told d t h f l n))));
-  }
+  onward = record { same = ap (λ z. z .now) x; tokens-kept = kept-same (d .tokens); names-kept = subst (Rest-kept (d .names)) (sym s) (kept-same (d .names)) };
+  listed = ap contents s ∙ h .listed;
+  tells = (
+    t .place,
+    refl,
+    subst (λ (m : ℕ). Refused (bytes d) (taken d) m (t .place)) (same-number l)
+        (refused-at (bytes d) (taken d) (h .short) (h .kept) t (d .reading .source .place) (rule-of l) (reached d t h f)
+        (subst (λ (y : Terminal). Told (rule-of l) (row d ++ (y ∷ []))) (sym (known d t h f)) (limit-told d t h f l n))),
+  );
+}
 
 -- ---- the token is taken
 module _ (d : Desk) (t : Token) (h : Ready d) (f : Fits t d) (r1 : Reading) (ns1 : Table First) (allowed : Allowed (terminal-now d t h f) (d .reading))
@@ -106,7 +113,7 @@ module _ (d : Desk) (t : Token) (h : Ready d) (f : Fits t d) (r1 : Reading) (ns1
       subst (Counted (r2 .counts)) (sym rows) (subst (λ (n : Counts). Counted n (row d ++ (y ∷ []))) (sym (looks .counts)) (record {
         paths = (let i = many-append Sizes.paths (row d) (y ∷ []) in let p = c .paths in let q = o .paths in omega arith);
         occurrences = (let i = ap length (names-append (row d) (y ∷ [])) in let l = length-append (names-of (row d)) (names-of (y ∷ [])) in let e = count-names (y ∷ []) in
-          let p = c .occurrences in let q = o .occurrences in omega arith);
+            let p = c .occurrences in let q = o .occurrences in omega arith);
         brackets = (let i = many-append (opening 1 1) (row d) (y ∷ []) in let p = c .brackets in let q = o .brackets in omega arith);
         depth = (let i = many-append (opening 1 1) (row d) (y ∷ []) in let j = many-append (closing 1 1) (row d) (y ∷ []) in let p = c .depth in let q = o .depth in omega arith);
         braces = (let i = many-append (opening 0 1) (row d) (y ∷ []) in let j = many-append (closing 0 1) (row d) (y ∷ []) in let p = c .braces in let q = o .braces in omega arith);
@@ -115,7 +122,7 @@ module _ (d : Desk) (t : Token) (h : Ready d) (f : Fits t d) (r1 : Reading) (ns1
   own2 : Own (r2 .own) (own-from [] (row d2))
   own2 =
       subst (λ (l : List Terminal). Own (r2 .own) (own-from [] l)) (sym rows)
-        (subst (λ ns. Own (r2 .own) ns) (sym (own-snoc [] (row d) y)) (subst (λ o. Own o (own-with y (own-from [] (row d)))) (sym (looks .own)) (counted-on .own (own-from [] (row d)) (h .own))))
+      (subst (λ ns. Own (r2 .own) ns) (sym (own-snoc [] (row d) y)) (subst (λ o. Own o (own-with y (own-from [] (row d)))) (sym (looks .own)) (counted-on .own (own-from [] (row d)) (h .own))))
 
   onward2 : Onward d d2
   onward2 = record { same = same-text; tokens-kept = a .kept; names-kept = kept1 }
@@ -126,7 +133,7 @@ module _ (d : Desk) (t : Token) (h : Ready d) (f : Fits t d) (r1 : Reading) (ns1
   reached2 : Reached (bytes d) (taken d2) (r1 .source .place)
   reached2 =
       subst (λ s. Reached (bytes d) (taken d2) (s .place)) (sym (still .source))
-        (subst (λ (ts : List Token). Reached (bytes d) ts (d .reading .source .place)) (sym (a .records)) (reached d t h f))
+      (subst (λ (ts : List Token). Reached (bytes d) ts (d .reading .source .place)) (sym (a .records)) (reached d t h f))
 
   next1 : reader.next (r1 .source .place) (drop (r1 .source .place) (reader.bytes (r1 .source))) ≡ reader.next (r1 .source .place) (drop (r1 .source .place) (bytes d))
   next1 = ap (λ (x : List ℕ). reader.next (r1 .source .place) (drop (r1 .source .place) x)) source1
@@ -142,22 +149,22 @@ module _ (d : Desk) (t : Token) (h : Ready d) (f : Fits t d) (r1 : Reading) (ns1
 
   pub took : Looked r1 r2 (Ok tt) → Went d d2 (step (standing d) (terminal (bytes d) t))
   took l = record {
-      onward = onward2;
-      ready = record {
-        short = (let e = ap length same-text in let s = h .short in omega arith);
-        source = looks .source ∙ source1 ∙ sym same-text;
-        follows = subst (λ (x : List ℕ). Follows x (taken d2) (r2 .source .place) (r2 .ahead)) (sym same-text) (follows2 (r2 .ahead) refl l);
-        kept = kept2;
-        few = few2;
-        listed = listed-old ∙ ap (λ (x : List ℕ). firsts x (taken d2)) (sym same-text);
-        token-places = (let p = a .kept .places in let q = h .token-places in omega arith);
-        name-places = (let p = kept1 .places in let q = h .name-places in omega arith);
-        counted = counted2;
-        own = own2;
-      };
-      stands = ap (run start) rows ∙ run-append start (row d) (y ∷ []) ∙ ap (step (standing d)) (sym (known d t h f));
-      further = (let e = one-longer in omega arith);
-    }
+    onward = onward2;
+    ready = record {
+      short = (let e = ap length same-text in let s = h .short in omega arith);
+      source = looks .source ∙ source1 ∙ sym same-text;
+      follows = subst (λ (x : List ℕ). Follows x (taken d2) (r2 .source .place) (r2 .ahead)) (sym same-text) (follows2 (r2 .ahead) refl l);
+      kept = kept2;
+      few = few2;
+      listed = listed-old ∙ ap (λ (x : List ℕ). firsts x (taken d2)) (sym same-text);
+      token-places = (let p = a .kept .places in let q = h .token-places in omega arith);
+      name-places = (let p = kept1 .places in let q = h .name-places in omega arith);
+      counted = counted2;
+      own = own2;
+    };
+    stands = ap (run start) rows ∙ run-append start (row d) (y ∷ []) ∙ ap (step (standing d)) (sym (known d t h f));
+    further = (let e = one-longer in omega arith);
+  }
 
   no-more : (s : Stop) → reader.next (r1 .source .place) (drop (r1 .source .place) (reader.bytes (r1 .source))) ≡ reader.none s → row-of (bytes d) ≡ onto (taken d2) (stopped s)
   no-more s e = stops (bytes d) (taken d2) (r1 .source .place) s reached2 (sym next1 ∙ e)

@@ -43,6 +43,30 @@ pub record Rest-kept {T : Type 0} (t t′ : Table T) : Type 0 where
   pub rest : drop (length (contents t′)) (allPlaces t′) ≡ drop (length (contents t′)) (allPlaces t)
 
 -- ---- counting
+-- one path more
+pub record One-path (c c′ : Counts) : Type 0 where
+  pub room : c .paths < 32
+  pub paths : c′ .paths ≡ c .paths + 1
+  pub occurrences : c′ .occurrences ≡ c .occurrences
+  pub brackets : c′ .brackets ≡ c .brackets
+  pub depth : c′ .depth ≡ c .depth
+  pub braces : c′ .braces ≡ c .braces
+
+-- the limit that one path more would pass
+abbrev pub Path-told : Counts → Limit → Type 0
+Path-told c OpenBrackets = ⊥
+Path-told c OpenBraces = ⊥
+Path-told c NameOnce = ⊥
+Path-told c Paths = 32 ≤ c .paths
+Path-told c Names = ⊥
+Path-told c Occurrences = ⊥
+Path-told c Brackets = ⊥
+
+-- a path was counted, or passes a limit
+abbrev pub Path-opened : Counts → Counts → Result (Unit {0}) Limit → Type 0
+Path-opened c c′ (Ok u) = One-path c c′
+Path-opened c c′ (Err l) = (c′ ≡ c) × Path-told c l
+
 -- one bracket more; b is 1 for a brace and 0 for a round bracket
 pub record Bracket-counted (b : ℕ) (c c′ : Counts) : Type 0 where
   pub shallow : c .depth < 16
@@ -87,16 +111,6 @@ Name-told again n k (Some Paths) = ⊥
 Name-told again n k (Some Names) = (again ≡ false) × (64 ≤ n)
 Name-told again n k (Some Occurrences) = (again ≡ false) × (n < 64) × (256 ≤ k)
 Name-told again n k (Some Brackets) = ⊥
-
--- a path more passes the limit
-abbrev pub Path-told : Counts → Limit → Type 0
-Path-told c OpenBrackets = ⊥
-Path-told c OpenBraces = ⊥
-Path-told c NameOnce = ⊥
-Path-told c Paths = 32 ≤ c .paths
-Path-told c Names = ⊥
-Path-told c Occurrences = ⊥
-Path-told c Brackets = ⊥
 
 -- ---- the token that follows
 -- a token as a terminal, by the names known so far

@@ -6,7 +6,7 @@ ghost use lib.Dec.{eqb, ltb};
 ghost use lib.ListN.{length, getD};
 ghost use Rattle.table.specs.Contents.{contents, allPlaces};
 ghost use Rattle.rules.specs.Names.{first-of};
-ghost use Rattle.reading.specs.State.{Rest-kept, Bracket-opened, Bracket-closed, Name-told, None-counted};
+ghost use Rattle.reading.specs.State.{Rest-kept, Path-opened, Bracket-opened, Bracket-closed, Name-told, None-counted};
 use super::Counts;
 use super::Limit;
 use table::Table;
@@ -18,7 +18,25 @@ impl Counts {
     pub fn new() -> Counts
         ensures none { λ r. ⌜ None-counted r ⌝ }
     {
-        Counts { paths: 0, occurrences: 0, brackets: 0, depth: 0, braces: 0 }
+        Counts {
+            paths: 0,
+            occurrences: 0,
+            brackets: 0,
+            depth: 0,
+            braces: 0,
+        }
+    }
+
+    // Counts a path, or tells that it is one too many.
+    pub fn open_path(&mut self) -> Result<(), Limit>
+        requires { ⌜ now self .paths ≤ 32 ⌝ }
+        ensures opened { λ r. ⌜ Path-opened (now (self .entry)) (now (self .exit)) r ⌝ }
+    {
+        if self.paths >= 32 {
+            return Err(Limit::Paths);
+        }
+        self.paths += 1;
+        Ok(())
     }
 
     // Counts a bracket that opens, or tells the limit that it passes; it is `braces` braces, one or none.
@@ -81,6 +99,9 @@ pub fn note(names: &mut Table<Name>, number: usize, token: Token)
     ensures rest { λ _. ⌜ Rest-kept (now (names .entry)) (now (names .exit)) ⌝ }
 {
     if number == names.count() {
-        let _ = names.add(Name { place: token.place, len: token.len });
+        let _ = names.add(Name {
+            place: token.place,
+            len: token.len,
+        });
     }
 }

@@ -12,7 +12,12 @@ use tokens::Token;
 
 impl<'a> Reading<'a> {
     // One or more selections with `;` between them; `depth` brackets more may open.
-    fn sequence(&mut self, tokens: &mut Table<Token>, names: &mut Table<Name>, depth: u8) -> Result<(), ReadFault>
+    fn sequence(
+        &mut self,
+        tokens: &mut Table<Token>,
+        names: &mut Table<Name>,
+        depth: u8,
+    ) -> Result<(), ReadFault>
         requires { ⌜ Ready (together (now self) (now tokens) (now names)) × Awaits depth (standing (together (now self) (now tokens) (now names))) ⌝ }
         ensures sequence { λ r. ⌜ Sequence-read (together (now (self .entry)) (now (tokens .entry)) (now (names .entry))) (together (now (self .exit)) (now (tokens .exit)) (now (names .exit))) r ⌝ }
     {
@@ -25,7 +30,12 @@ impl<'a> Reading<'a> {
     }
 
     // One or more elements with `,` between them.
-    fn selection(&mut self, tokens: &mut Table<Token>, names: &mut Table<Name>, depth: u8) -> Result<(), ReadFault>
+    fn selection(
+        &mut self,
+        tokens: &mut Table<Token>,
+        names: &mut Table<Name>,
+        depth: u8,
+    ) -> Result<(), ReadFault>
         requires { ⌜ Ready (together (now self) (now tokens) (now names)) × Awaits depth (standing (together (now self) (now tokens) (now names))) ⌝ }
         ensures selection { λ r. ⌜ Selection-read (together (now (self .entry)) (now (tokens .entry)) (now (names .entry))) (together (now (self .exit)) (now (tokens .exit)) (now (names .exit))) r ⌝ }
     {
@@ -38,7 +48,12 @@ impl<'a> Reading<'a> {
     }
 
     // A name, or a sequence between round brackets, or a sequence between braces.
-    fn element(&mut self, tokens: &mut Table<Token>, names: &mut Table<Name>, depth: u8) -> Result<(), ReadFault>
+    fn element(
+        &mut self,
+        tokens: &mut Table<Token>,
+        names: &mut Table<Name>,
+        depth: u8,
+    ) -> Result<(), ReadFault>
         requires { ⌜ Ready (together (now self) (now tokens) (now names)) × Awaits depth (standing (together (now self) (now tokens) (now names))) ⌝ }
         ensures element { λ r. ⌜ Element-read (together (now (self .entry)) (now (tokens .entry)) (now (names .entry))) (together (now (self .exit)) (now (tokens .exit)) (now (names .exit))) r ⌝ }
     {
@@ -59,7 +74,12 @@ impl<'a> Reading<'a> {
     }
 
     // The bracket that closes the innermost open one.
-    fn close(&mut self, tokens: &mut Table<Token>, names: &mut Table<Name>, kind: Kind) -> Result<(), ReadFault>
+    fn close(
+        &mut self,
+        tokens: &mut Table<Token>,
+        names: &mut Table<Name>,
+        kind: Kind,
+    ) -> Result<(), ReadFault>
         requires { ⌜ Ready (together (now self) (now tokens) (now names)) × Closable kind (standing (together (now self) (now tokens) (now names))) × Not-ahead SemicolonKind (now self .ahead) × Not-ahead CommaKind (now self .ahead) ⌝ }
         ensures bracket { λ r. ⌜ Bracket-read (together (now (self .entry)) (now (tokens .entry)) (now (names .entry))) (together (now (self .exit)) (now (tokens .exit)) (now (names .exit))) r ⌝ }
     {
@@ -86,7 +106,11 @@ impl<'a> Reading<'a> {
     }
 
     // One or more paths, to the text's end.
-    pub fn paths(&mut self, tokens: &mut Table<Token>, names: &mut Table<Name>) -> Result<(), ReadFault>
+    pub fn paths(
+        &mut self,
+        tokens: &mut Table<Token>,
+        names: &mut Table<Name>,
+    ) -> Result<(), ReadFault>
         requires { ⌜ Ready (together (now self) (now tokens) (now names)) × (standing (together (now self) (now tokens) (now names)) ≡ start) ⌝ }
         ensures paths { λ r. ⌜ Paths-read (together (now (self .entry)) (now (tokens .entry)) (now (names .entry))) (together (now (self .exit)) (now (tokens .exit)) (now (names .exit))) r ⌝ }
     {

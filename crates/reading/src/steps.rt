@@ -8,11 +8,11 @@ use super::GrammarFault;
 use super::Limit;
 use super::ReadFault;
 use super::Reading;
-use super::faults::BytesInGrammar;
-use super::faults::GrammarInRead;
 use super::counting::marked;
 use super::counting::name_limit;
 use super::counting::note;
+use super::faults::BytesInGrammar;
+use super::faults::GrammarInRead;
 use table::Table;
 use tokens::Kind;
 use tokens::KindPartialEq;
@@ -42,10 +42,7 @@ impl<'a> Reading<'a> {
         requires { ⌜ now self .counts .paths ≤ 32 ⌝ }
         ensures counted { λ r. ⌜ Path-counted (now (self .entry)) (now (self .exit)) r ⌝ }
     {
-        if self.counts.paths >= 32 {
-            return Err(Limit::Paths);
-        }
-        self.counts.paths += 1;
+        self.counts.open_path()?;
         self.own = [false; 64];
         Ok(())
     }
@@ -106,7 +103,12 @@ impl<'a> Reading<'a> {
     }
 
     // Takes the token that follows, or tells the text's first fault.
-    pub fn advance(&mut self, tokens: &mut Table<Token>, names: &mut Table<Name>, token: Token) -> Result<(), ReadFault>
+    pub fn advance(
+        &mut self,
+        tokens: &mut Table<Token>,
+        names: &mut Table<Name>,
+        token: Token,
+    ) -> Result<(), ReadFault>
         requires { ⌜ Ready (together (now self) (now tokens) (now names)) × Fits token (together (now self) (now tokens) (now names)) ⌝ }
         ensures advanced { λ r. ⌜ Advanced token (together (now (self .entry)) (now (tokens .entry)) (now (names .entry))) (together (now (self .exit)) (now (tokens .exit)) (now (names .exit))) r ⌝ }
     {

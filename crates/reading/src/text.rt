@@ -1,6 +1,7 @@
 ghost use mathlib.Core.Path.{_≡_};
 ghost use mathlib.Core.List.{[]};
 ghost use Prim.Native.Nat.{_<_};
+ghost use lib.ListN.{length};
 ghost use Rattle.table.specs.Contents.{contents, allPlaces};
 ghost use Rattle.reading.specs.Outcome.{Answered, Rest-same, Measured};
 ghost use Rattle.reading.specs.State.{Unread, Begun};
@@ -40,7 +41,13 @@ impl<'a> Reading<'a> {
     fn new(text: &'a [u8]) -> Reading<'a>
         ensures unread { λ r. ⌜ Unread (now (text .entry)) r ⌝ }
     {
-        Reading { text, source: TokenReader::new(text), ahead: None, counts: Counts::new(), own: [false; 64] }
+        Reading {
+            text,
+            source: TokenReader::new(text),
+            ahead: None,
+            counts: Counts::new(),
+            own: [false; 64],
+        }
     }
 
     // Checks the length of the text and reads its first token.
@@ -51,10 +58,27 @@ impl<'a> Reading<'a> {
         check_length(self.text)?;
         self.look()
     }
+
+    // What was counted of a text whose names are all noted.
+    fn counted(&self, names: &Table<Name>) -> Read
+        ensures paths { λ r. ⌜ r .paths ≡ now (self .entry) .counts .paths ⌝ }
+        ensures names { λ r. ⌜ r .names ≡ length (contents (now (names .entry))) ⌝ }
+        ensures occurrences { λ r. ⌜ r .occurrences ≡ now (self .entry) .counts .occurrences ⌝ }
+    {
+        Read {
+            paths: self.counts.paths,
+            names: names.count(),
+            occurrences: self.counts.occurrences,
+        }
+    }
 }
 
 // Reads a text: fills the tables with its tokens and the first occurrences of its names, or tells its first fault.
-pub fn read(text: &[u8], tokens: &mut Table<Token>, names: &mut Table<Name>) -> Result<Read, ReadFault>
+pub fn read(
+    text: &[u8],
+    tokens: &mut Table<Token>,
+    names: &mut Table<Name>,
+) -> Result<Read, ReadFault>
     ensures answered { λ r. ⌜ Answered (now (text .entry)) (now (tokens .entry)) (now (names .entry)) (now (tokens .exit)) (now (names .exit)) r ⌝ }
     ensures tokens_rest { λ _. ⌜ Rest-same (now (tokens .entry)) (now (tokens .exit)) ⌝ }
     ensures names_rest { λ _. ⌜ Rest-same (now (names .entry)) (now (names .exit)) ⌝ }
@@ -66,7 +90,7 @@ pub fn read(text: &[u8], tokens: &mut Table<Token>, names: &mut Table<Name>) -> 
     let mut reading = Reading::new(text);
     reading.begin()?;
     reading.paths(tokens, names)?;
-    Ok(Read { paths: reading.counts.paths, names: names.count(), occurrences: reading.counts.occurrences })
+    Ok(reading.counted(names))
 }
 
 impl Read {

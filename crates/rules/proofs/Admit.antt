@@ -92,9 +92,10 @@ module _ (row : List Terminal) (x : Terminal) (k : Kept row) (goes : run start (
   own-kept = sure (own-from [] row) (none-breaks row k name-once)
 
   no-names : names-of (x ∷ []) ≡ [] → (¬ Breaks all-names (and-then row x)) × (¬ Breaks all-occurrences (and-then row x))
-  no-names e =
-      ( names-kept (let i = ap (λ (w : List ℕ). different (names-of row ++ w)) e in let j = ap different (append-nil (names-of row)) in let n = none-breaks row k all-names in omega arith)
-      , occurrences-kept (let i = ap (λ (w : List ℕ). length w) e in let n = none-breaks row k all-occurrences in omega arith))
+  no-names e = (
+    names-kept (let i = ap (λ (w : List ℕ). different (names-of row ++ w)) e in let j = ap different (append-nil (names-of row)) in let n = none-breaks row k all-names in omega arith),
+    occurrences-kept (let i = ap (λ (w : List ℕ). length w) e in let n = none-breaks row k all-occurrences in omega arith),
+  )
 
   pairs-same : opening 1 1 x ≡ 0 → ¬ Breaks all-brackets (and-then row x)
   pairs-same e = pairs-kept (let n = none-breaks row k all-brackets in omega arith)
@@ -113,8 +114,8 @@ module _ (row : List Terminal) (n : ℕ) (k : Kept row) (goes : run start (and-t
   pub tell-again : among n (own-from [] row) ≡ true → Told name-once (and-then row (word n))
   tell-again e =
       tell row (word n) k goes name-once (λ d. not-distinct (own-from [] row) n e (subst Distinct (own-snoc [] row (word n)) d))
-        (smaller _ 8 (λ _. sentence-kept row (word n) k goes) (λ _. depth-same row (word n) k goes refl) (λ _. braces-same row (word n) k goes refl)
-          (λ h. absurd (omega arith)) (λ h. absurd (omega arith)) (λ h. absurd (omega arith)) (λ h. absurd (omega arith)) (λ h. absurd (omega arith)))
+      (smaller _ 8 (λ _. sentence-kept row (word n) k goes) (λ _. depth-same row (word n) k goes refl) (λ _. braces-same row (word n) k goes refl)
+      (λ h. absurd (omega arith)) (λ h. absurd (omega arith)) (λ h. absurd (omega arith)) (λ h. absurd (omega arith)) (λ h. absurd (omega arith)))
 
   once : among n (own-from [] row) ≡ false → ¬ Breaks name-once (and-then row (word n))
   once e = once-kept row (word n) k goes (distinct-new (own-from [] row) n (own-kept row (word n) k goes) e)
@@ -122,10 +123,10 @@ module _ (row : List Terminal) (n : ℕ) (k : Kept row) (goes : run start (and-t
   pub tell-names : among n (own-from [] row) ≡ false → among n (names-of row) ≡ false → 64 ≤ different (names-of row) → Told all-names (and-then row (word n))
   tell-names e f h =
       tell row (word n) k goes all-names
-        (let i = ap different (names-append row (word n ∷ [])) in let d = different-snoc [] (names-of row) n in
-         let d′ : different (names-of row ++ (n ∷ [])) ≡ different (names-of row) + cond false 0 1 = d ∙ ap (λ (c : Bool). different (names-of row) + cond c 0 1) f in omega arith)
-        (smaller _ 10 (λ _. sentence-kept row (word n) k goes) (λ _. depth-same row (word n) k goes refl) (λ _. braces-same row (word n) k goes refl)
-          (λ _. once e) (λ _. paths-same row (word n) k goes refl) (λ h. absurd (omega arith)) (λ h. absurd (omega arith)) (λ h. absurd (omega arith)))
+      (let i = ap different (names-append row (word n ∷ [])) in let d = different-snoc [] (names-of row) n in
+      let d′ : different (names-of row ++ (n ∷ [])) ≡ different (names-of row) + cond false 0 1 = d ∙ ap (λ (c : Bool). different (names-of row) + cond c 0 1) f in omega arith)
+      (smaller _ 10 (λ _. sentence-kept row (word n) k goes) (λ _. depth-same row (word n) k goes refl) (λ _. braces-same row (word n) k goes refl)
+      (λ _. once e) (λ _. paths-same row (word n) k goes refl) (λ h. absurd (omega arith)) (λ h. absurd (omega arith)) (λ h. absurd (omega arith)))
 
   -- a name that is known, or for which there is a place
   abbrev pub Has-place : Type 0
@@ -136,6 +137,7 @@ module _ (row : List Terminal) (n : ℕ) (k : Kept row) (goes : run start (and-t
     where
       d : different (names-of row ++ (n ∷ [])) ≡ different (names-of row) + cond (among n (names-of row)) 0 1
       d = different-snoc [] (names-of row) n
+
       go : (c : Bool) → among n (names-of row) ≡ c → different (names-of row ++ (n ∷ [])) ≤ 64
       go true f = let d′ = d ∙ ap (λ (c : Bool). different (names-of row) + cond c 0 1) f in let z = none-breaks row k all-names in omega arith
       go false f = let d′ = d ∙ ap (λ (c : Bool). different (names-of row) + cond c 0 1) f in let z = p f in omega arith
@@ -143,16 +145,16 @@ module _ (row : List Terminal) (n : ℕ) (k : Kept row) (goes : run start (and-t
   pub tell-occurrences : among n (own-from [] row) ≡ false → Has-place → 256 ≤ length (names-of row) → Told all-occurrences (and-then row (word n))
   tell-occurrences e p h =
       tell row (word n) k goes all-occurrences
-        (let i = ap length (names-append row (word n ∷ [])) in let j = length-append (names-of row) (n ∷ []) in omega arith)
-        (smaller _ 11 (λ _. sentence-kept row (word n) k goes) (λ _. depth-same row (word n) k goes refl) (λ _. braces-same row (word n) k goes refl)
-          (λ _. once e) (λ _. paths-same row (word n) k goes refl) (λ _. placed p) (λ h. absurd (omega arith)) (λ h. absurd (omega arith)))
+      (let i = ap length (names-append row (word n ∷ [])) in let j = length-append (names-of row) (n ∷ []) in omega arith)
+      (smaller _ 11 (λ _. sentence-kept row (word n) k goes) (λ _. depth-same row (word n) k goes refl) (λ _. braces-same row (word n) k goes refl)
+      (λ _. once e) (λ _. paths-same row (word n) k goes refl) (λ _. placed p) (λ h. absurd (omega arith)) (λ h. absurd (omega arith)))
 
   pub keep-name : among n (own-from [] row) ≡ false → Has-place → length (names-of row) < 256 → Kept (and-then row (word n))
   keep-name e p h =
       keep row (word n) k goes (λ s.
-        smaller _ 13 (λ _. sentence-kept row (word n) k goes) (λ _. depth-same row (word n) k goes refl) (λ _. braces-same row (word n) k goes refl)
-          (λ _. once e) (λ _. paths-same row (word n) k goes refl) (λ _. placed p) (λ _. occurrences-kept row (word n) k goes (omega arith)) (λ _. pairs-same row (word n) k goes refl)
-          s (all-below-13 s))
+      smaller _ 13 (λ _. sentence-kept row (word n) k goes) (λ _. depth-same row (word n) k goes refl) (λ _. braces-same row (word n) k goes refl)
+      (λ _. once e) (λ _. paths-same row (word n) k goes refl) (λ _. placed p) (λ _. occurrences-kept row (word n) k goes (omega arith)) (λ _. pairs-same row (word n) k goes refl)
+      s (all-below-13 s))
 
 -- ---- a bracket that opens
 -- a terminal that names nothing and begins no path
@@ -170,27 +172,27 @@ module _ (row : List Terminal) (x : Terminal) (k : Kept row) (goes : run start (
   pub tell-depth : closing 1 1 x ≡ 0 → 16 ≤ d → Told open-brackets (and-then row x)
   tell-depth z h =
       tell row x k goes open-brackets (depth-broken row x k goes d open-now z (omega arith))
-        (smaller _ 6 (λ _. sentence-kept row x k goes) (λ h. absurd (omega arith)) (λ h. absurd (omega arith)) (λ h. absurd (omega arith)) (λ h. absurd (omega arith))
-          (λ h. absurd (omega arith)) (λ h. absurd (omega arith)) (λ h. absurd (omega arith)))
+      (smaller _ 6 (λ _. sentence-kept row x k goes) (λ h. absurd (omega arith)) (λ h. absurd (omega arith)) (λ h. absurd (omega arith)) (λ h. absurd (omega arith))
+      (λ h. absurd (omega arith)) (λ h. absurd (omega arith)) (λ h. absurd (omega arith)))
 
   pub tell-braces : closing 0 1 x ≡ 0 → d < 16 → 1 < e + opening 0 1 x → Told open-braces (and-then row x)
   tell-braces z g h =
       tell row x k goes open-braces (braces-broken row x k goes e braces-now z h)
-        (smaller _ 7 (λ _. sentence-kept row x k goes) (λ _. depth-kept row x k goes d open-now (omega arith)) (λ h. absurd (omega arith)) (λ h. absurd (omega arith))
-          (λ h. absurd (omega arith)) (λ h. absurd (omega arith)) (λ h. absurd (omega arith)) (λ h. absurd (omega arith)))
+      (smaller _ 7 (λ _. sentence-kept row x k goes) (λ _. depth-kept row x k goes d open-now (omega arith)) (λ h. absurd (omega arith)) (λ h. absurd (omega arith))
+      (λ h. absurd (omega arith)) (λ h. absurd (omega arith)) (λ h. absurd (omega arith)) (λ h. absurd (omega arith)))
 
   pub tell-brackets : d < 16 → e + opening 0 1 x ≤ 1 → 256 ≤ opened 1 1 row → Told all-brackets (and-then row x)
   tell-brackets g f h =
       tell row x k goes all-brackets (pairs-broken row x k goes (omega arith))
-        (smaller _ 12 (λ _. sentence-kept row x k goes) (λ _. depth-kept row x k goes d open-now (omega arith)) (λ _. braces-kept row x k goes e braces-now f)
-          (λ _. same-own) (λ _. paths-same row x k goes (p .inside)) (λ _. no-names row x k goes (p .nameless) .0) (λ _. no-names row x k goes (p .nameless) .1) (λ h. absurd (omega arith)))
+      (smaller _ 12 (λ _. sentence-kept row x k goes) (λ _. depth-kept row x k goes d open-now (omega arith)) (λ _. braces-kept row x k goes e braces-now f)
+      (λ _. same-own) (λ _. paths-same row x k goes (p .inside)) (λ _. no-names row x k goes (p .nameless) .0) (λ _. no-names row x k goes (p .nameless) .1) (λ h. absurd (omega arith)))
 
   pub keep-bracket : d < 16 → e + opening 0 1 x ≤ 1 → opened 1 1 row < 256 → Kept (and-then row x)
   keep-bracket g f h =
       keep row x k goes (λ s.
-        smaller _ 13 (λ _. sentence-kept row x k goes) (λ _. depth-kept row x k goes d open-now (omega arith)) (λ _. braces-kept row x k goes e braces-now f)
-          (λ _. same-own) (λ _. paths-same row x k goes (p .inside)) (λ _. no-names row x k goes (p .nameless) .0) (λ _. no-names row x k goes (p .nameless) .1)
-          (λ _. pairs-kept row x k goes (omega arith)) s (all-below-13 s))
+      smaller _ 13 (λ _. sentence-kept row x k goes) (λ _. depth-kept row x k goes d open-now (omega arith)) (λ _. braces-kept row x k goes e braces-now f)
+      (λ _. same-own) (λ _. paths-same row x k goes (p .inside)) (λ _. no-names row x k goes (p .nameless) .0) (λ _. no-names row x k goes (p .nameless) .1)
+      (λ _. pairs-kept row x k goes (omega arith)) s (all-below-13 s))
 
 -- ---- the word `path`
 module _ (row : List Terminal) (k : Kept row) (goes : run start (and-then row path) ≢ stuck) where
@@ -200,28 +202,28 @@ module _ (row : List Terminal) (k : Kept row) (goes : run start (and-then row pa
   pub tell-paths : 32 ≤ how-many paths row → Told all-paths (and-then row path)
   tell-paths h =
       tell row path k goes all-paths (paths-broken row path k goes (omega arith))
-        (smaller _ 9 (λ _. sentence-kept row path k goes) (λ _. depth-same row path k goes refl) (λ _. braces-same row path k goes refl) (λ _. new-own)
-          (λ h. absurd (omega arith)) (λ h. absurd (omega arith)) (λ h. absurd (omega arith)) (λ h. absurd (omega arith)))
+      (smaller _ 9 (λ _. sentence-kept row path k goes) (λ _. depth-same row path k goes refl) (λ _. braces-same row path k goes refl) (λ _. new-own)
+      (λ h. absurd (omega arith)) (λ h. absurd (omega arith)) (λ h. absurd (omega arith)) (λ h. absurd (omega arith)))
 
   pub keep-path : how-many paths row < 32 → Kept (and-then row path)
   keep-path h =
       keep row path k goes (λ s.
-        smaller _ 13 (λ _. sentence-kept row path k goes) (λ _. depth-same row path k goes refl) (λ _. braces-same row path k goes refl) (λ _. new-own)
-          (λ _. paths-kept row path k goes (omega arith)) (λ _. no-names row path k goes refl .0) (λ _. no-names row path k goes refl .1) (λ _. pairs-same row path k goes refl) s (all-below-13 s))
+      smaller _ 13 (λ _. sentence-kept row path k goes) (λ _. depth-same row path k goes refl) (λ _. braces-same row path k goes refl) (λ _. new-own)
+      (λ _. paths-kept row path k goes (omega arith)) (λ _. no-names row path k goes refl .0) (λ _. no-names row path k goes refl .1) (λ _. pairs-same row path k goes refl) s (all-below-13 s))
 
 -- ---- what else the grammar lets through
 module _ (row : List Terminal) (x : Terminal) (k : Kept row) (goes : run start (and-then row x) ≢ stuck) (shut : opening 1 1 x ≡ 0) (shut′ : opening 0 1 x ≡ 0) (p : Plain x) where
   pub keep-other : Kept (and-then row x)
   keep-other =
       keep row x k goes (λ s.
-        smaller _ 13 (λ _. sentence-kept row x k goes) (λ _. depth-same row x k goes shut) (λ _. braces-same row x k goes shut′)
-          (λ _. once-kept row x k goes (subst Distinct (sym (p .inner (own-from [] row))) (own-kept row x k goes))) (λ _. paths-same row x k goes (p .inside))
-          (λ _. no-names row x k goes (p .nameless) .0) (λ _. no-names row x k goes (p .nameless) .1) (λ _. pairs-same row x k goes shut) s (all-below-13 s))
+      smaller _ 13 (λ _. sentence-kept row x k goes) (λ _. depth-same row x k goes shut) (λ _. braces-same row x k goes shut′)
+      (λ _. once-kept row x k goes (subst Distinct (sym (p .inner (own-from [] row))) (own-kept row x k goes))) (λ _. paths-same row x k goes (p .inside))
+      (λ _. no-names row x k goes (p .nameless) .0) (λ _. no-names row x k goes (p .nameless) .1) (λ _. pairs-same row x k goes shut) s (all-below-13 s))
 
 -- ---- what the grammar does not let through
 pub tell-sentence : (row : List Terminal) → run start row ≡ stuck → Told begins-sentence row
 tell-sentence row e = record {
-    broken = λ b. viable row .0 b e;
-    smallest = smaller row 4 (λ h. absurd (omega arith)) (λ h. absurd (omega arith)) (λ h. absurd (omega arith)) (λ h. absurd (omega arith))
+  broken = λ b. viable row .0 b e;
+  smallest = smaller row 4 (λ h. absurd (omega arith)) (λ h. absurd (omega arith)) (λ h. absurd (omega arith)) (λ h. absurd (omega arith))
       (λ h. absurd (omega arith)) (λ h. absurd (omega arith)) (λ h. absurd (omega arith)) (λ h. absurd (omega arith));
-  }
+}

@@ -63,6 +63,7 @@ not-distinct (x ∷ ns) n p d = go (eqb n x) refl (λ q. not-distinct ns n q (d 
     or-true : (a b : Bool) → b ≡ true → (a || b) ≡ true
     or-true true b q = refl
     or-true false b q = q
+
     go : (c : Bool) → eqb n x ≡ c → (among n ns ≡ true → ⊥) → ⊥
     go true e later = both-ways (among x (ns ++ (n ∷ []))) (d .0) (among-snoc x ns n ∙ or-true (among x ns) (eqb x n) (eqb-swap x n ∙ e))
     go false e later = later (rw e at p)
@@ -92,11 +93,13 @@ different-snoc seen (x ∷ ns) n = go (among x seen) refl (different-snoc seen n
     known e true b h = refl
     known true false b h = absurd (both-ways false refl (h refl))
     known false false b h = refl
+
     new : (e a b : Bool) → _≡_ {A = ℕ} (cond (cond e true a || b) 0 1) (cond (a || cond e true b) 0 1)
     new true true b = refl
     new true false b = refl
     new false true b = refl
     new false false b = refl
+
     go : (c : Bool) → among x seen ≡ c →
         different-from seen (ns ++ (n ∷ [])) ≡ different-from seen ns + cond (among n seen || among n ns) 0 1 →
         different-from (x ∷ seen) (ns ++ (n ∷ [])) ≡ different-from (x ∷ seen) ns + cond (among n (x ∷ seen) || among n ns) 0 1 →

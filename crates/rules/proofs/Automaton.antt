@@ -130,7 +130,7 @@ round-first bs row h =
     let c = h .3 in
     let i = element-first (round s) bs (c .0) (c .1, c .2, c .4, c .5) in
     let p : (round-open ∷ row) ≡ yield-element (round s) ++ c .0 =
-        cons round-open (h .2 ∙ ap (λ (w : List Terminal). yield-sequence s ++ w) (c .3) ∙ sym (append-assoc (yield-sequence s) (round-close ∷ []) (c .0))) in
+    cons round-open (h .2 ∙ ap (λ (w : List Terminal). yield-sequence s ++ w) (c .3) ∙ sym (append-assoc (yield-sequence s) (round-close ∷ []) (c .0))) in
     (i .0, i .1, p ∙ i .2, i .3)
 
 brace-first : (bs : List Bracket) (row : List Terminal) → Before (brace-bracket ∷ bs) row → Before bs (brace-open ∷ row)
@@ -139,7 +139,7 @@ brace-first bs row h =
     let c = h .3 in
     let i = element-first (brace s) bs (c .0) (c .1, c .2, c .4, c .5) in
     let p : (brace-open ∷ row) ≡ yield-element (brace s) ++ c .0 =
-        cons brace-open (h .2 ∙ ap (λ (w : List Terminal). yield-sequence s ++ w) (c .3) ∙ sym (append-assoc (yield-sequence s) (brace-close ∷ []) (c .0))) in
+    cons brace-open (h .2 ∙ ap (λ (w : List Terminal). yield-sequence s ++ w) (c .3) ∙ sym (append-assoc (yield-sequence s) (brace-close ∷ []) (c .0))) in
     (i .0, i .1, p ∙ i .2, i .3)
 
 path-first : (row : List Terminal) → Before [] row → Sentence (path ∷ row)
@@ -147,16 +147,16 @@ path-first row h = go (h .3 .2)
   where
     s : Sequence
     s = h .0
+
     r : List Terminal
     r = h .3 .0
+
     p : (path ∷ row) ≡ yield-path s ++ r
     p = cons path (h .2 ∙ ap (λ (w : List Terminal). yield-sequence s ++ w) (h .3 .1) ∙ sym (append-assoc (yield-sequence s) (end ∷ []) r))
+
     go : Paths r → Sentence (path ∷ row)
     go (inl e) = (one s, sym (append-nil (yield-path s)) ∙ ap (λ (w : List Terminal). yield-path s ++ w) (sym e) ∙ sym p)
     go (inr t) = (more s (t .0), ap (λ (w : List Terminal). yield-path s ++ w) (t .1) ∙ sym p)
-
-no-end : {s : State} → s ≡ stuck → s ≡ between → ⊥
-no-end p q = different-states p q
 
 rest-of : (s : State) (row : List Terminal) → run s row ≡ between → Rest s row
 rest-of start [] p = absurd (let z : _≡_ {A = ℕ} 0 1 = cc in omega arith)
@@ -164,53 +164,53 @@ rest-of between [] p = inl refl
 rest-of (before-element bs) [] p = absurd (let z : _≡_ {A = ℕ} 0 1 = cc in omega arith)
 rest-of (behind-element bs) [] p = absurd (let z : _≡_ {A = ℕ} 0 1 = cc in omega arith)
 rest-of stuck [] p = different-states refl p
-rest-of start (semicolon ∷ row) p = absurd (no-end (stays-stuck row) p)
-rest-of start (comma ∷ row) p = absurd (no-end (stays-stuck row) p)
-rest-of start (round-open ∷ row) p = absurd (no-end (stays-stuck row) p)
-rest-of start (round-close ∷ row) p = absurd (no-end (stays-stuck row) p)
-rest-of start (brace-open ∷ row) p = absurd (no-end (stays-stuck row) p)
-rest-of start (brace-close ∷ row) p = absurd (no-end (stays-stuck row) p)
+rest-of start (semicolon ∷ row) p = absurd (different-states (stays-stuck row) p)
+rest-of start (comma ∷ row) p = absurd (different-states (stays-stuck row) p)
+rest-of start (round-open ∷ row) p = absurd (different-states (stays-stuck row) p)
+rest-of start (round-close ∷ row) p = absurd (different-states (stays-stuck row) p)
+rest-of start (brace-open ∷ row) p = absurd (different-states (stays-stuck row) p)
+rest-of start (brace-close ∷ row) p = absurd (different-states (stays-stuck row) p)
 rest-of start (path ∷ row) p = path-first row (rest-of (before-element []) row p)
-rest-of start (end ∷ row) p = absurd (no-end (stays-stuck row) p)
-rest-of start (word n ∷ row) p = absurd (no-end (stays-stuck row) p)
-rest-of between (semicolon ∷ row) p = absurd (no-end (stays-stuck row) p)
-rest-of between (comma ∷ row) p = absurd (no-end (stays-stuck row) p)
-rest-of between (round-open ∷ row) p = absurd (no-end (stays-stuck row) p)
-rest-of between (round-close ∷ row) p = absurd (no-end (stays-stuck row) p)
-rest-of between (brace-open ∷ row) p = absurd (no-end (stays-stuck row) p)
-rest-of between (brace-close ∷ row) p = absurd (no-end (stays-stuck row) p)
+rest-of start (end ∷ row) p = absurd (different-states (stays-stuck row) p)
+rest-of start (word n ∷ row) p = absurd (different-states (stays-stuck row) p)
+rest-of between (semicolon ∷ row) p = absurd (different-states (stays-stuck row) p)
+rest-of between (comma ∷ row) p = absurd (different-states (stays-stuck row) p)
+rest-of between (round-open ∷ row) p = absurd (different-states (stays-stuck row) p)
+rest-of between (round-close ∷ row) p = absurd (different-states (stays-stuck row) p)
+rest-of between (brace-open ∷ row) p = absurd (different-states (stays-stuck row) p)
+rest-of between (brace-close ∷ row) p = absurd (different-states (stays-stuck row) p)
 rest-of between (path ∷ row) p = inr (path-first row (rest-of (before-element []) row p))
-rest-of between (end ∷ row) p = absurd (no-end (stays-stuck row) p)
-rest-of between (word n ∷ row) p = absurd (no-end (stays-stuck row) p)
-rest-of (before-element bs) (semicolon ∷ row) p = absurd (no-end (stays-stuck row) p)
-rest-of (before-element bs) (comma ∷ row) p = absurd (no-end (stays-stuck row) p)
+rest-of between (end ∷ row) p = absurd (different-states (stays-stuck row) p)
+rest-of between (word n ∷ row) p = absurd (different-states (stays-stuck row) p)
+rest-of (before-element bs) (semicolon ∷ row) p = absurd (different-states (stays-stuck row) p)
+rest-of (before-element bs) (comma ∷ row) p = absurd (different-states (stays-stuck row) p)
 rest-of (before-element bs) (round-open ∷ row) p = round-first bs row (rest-of (before-element (round-bracket ∷ bs)) row p)
-rest-of (before-element bs) (round-close ∷ row) p = absurd (no-end (stays-stuck row) p)
+rest-of (before-element bs) (round-close ∷ row) p = absurd (different-states (stays-stuck row) p)
 rest-of (before-element bs) (brace-open ∷ row) p = brace-first bs row (rest-of (before-element (brace-bracket ∷ bs)) row p)
-rest-of (before-element bs) (brace-close ∷ row) p = absurd (no-end (stays-stuck row) p)
-rest-of (before-element bs) (path ∷ row) p = absurd (no-end (stays-stuck row) p)
-rest-of (before-element bs) (end ∷ row) p = absurd (no-end (stays-stuck row) p)
+rest-of (before-element bs) (brace-close ∷ row) p = absurd (different-states (stays-stuck row) p)
+rest-of (before-element bs) (path ∷ row) p = absurd (different-states (stays-stuck row) p)
+rest-of (before-element bs) (end ∷ row) p = absurd (different-states (stays-stuck row) p)
 rest-of (before-element bs) (word n ∷ row) p = element-first (name n) bs row (rest-of (behind-element bs) row p)
 rest-of (behind-element bs) (semicolon ∷ row) p =
     let h = rest-of (before-element bs) row p in (more-selections (h .0), h .1, cons semicolon (h .2), h .3)
 rest-of (behind-element bs) (comma ∷ row) p =
     let h = rest-of (before-element bs) row p in
     (comma-tail (h .0), h .1, cons comma (h .2) ∙ ap (λ (w : List Terminal). w ++ h .1) (sym (comma-tail-yield (h .0))), h .3)
-rest-of (behind-element bs) (round-open ∷ row) p = absurd (no-end (stays-stuck row) p)
-rest-of (behind-element []) (round-close ∷ row) p = absurd (no-end (stays-stuck row) p)
+rest-of (behind-element bs) (round-open ∷ row) p = absurd (different-states (stays-stuck row) p)
+rest-of (behind-element []) (round-close ∷ row) p = absurd (different-states (stays-stuck row) p)
 rest-of (behind-element (round-bracket ∷ bs)) (round-close ∷ row) p =
     let h = rest-of (behind-element bs) row p in (nothing, round-close ∷ row, refl, (row, h .0, h .1, refl, h .2, h .3))
-rest-of (behind-element (brace-bracket ∷ bs)) (round-close ∷ row) p = absurd (no-end (stays-stuck row) p)
-rest-of (behind-element bs) (brace-open ∷ row) p = absurd (no-end (stays-stuck row) p)
-rest-of (behind-element []) (brace-close ∷ row) p = absurd (no-end (stays-stuck row) p)
-rest-of (behind-element (round-bracket ∷ bs)) (brace-close ∷ row) p = absurd (no-end (stays-stuck row) p)
+rest-of (behind-element (brace-bracket ∷ bs)) (round-close ∷ row) p = absurd (different-states (stays-stuck row) p)
+rest-of (behind-element bs) (brace-open ∷ row) p = absurd (different-states (stays-stuck row) p)
+rest-of (behind-element []) (brace-close ∷ row) p = absurd (different-states (stays-stuck row) p)
+rest-of (behind-element (round-bracket ∷ bs)) (brace-close ∷ row) p = absurd (different-states (stays-stuck row) p)
 rest-of (behind-element (brace-bracket ∷ bs)) (brace-close ∷ row) p =
     let h = rest-of (behind-element bs) row p in (nothing, brace-close ∷ row, refl, (row, h .0, h .1, refl, h .2, h .3))
-rest-of (behind-element bs) (path ∷ row) p = absurd (no-end (stays-stuck row) p)
+rest-of (behind-element bs) (path ∷ row) p = absurd (different-states (stays-stuck row) p)
 rest-of (behind-element []) (end ∷ row) p = (nothing, end ∷ row, refl, (row, refl, rest-of between row p))
-rest-of (behind-element (b ∷ bs)) (end ∷ row) p = absurd (no-end (stays-stuck row) p)
-rest-of (behind-element bs) (word n ∷ row) p = absurd (no-end (stays-stuck row) p)
-rest-of stuck (t ∷ row) p = no-end (stays-stuck row) p
+rest-of (behind-element (b ∷ bs)) (end ∷ row) p = absurd (different-states (stays-stuck row) p)
+rest-of (behind-element bs) (word n ∷ row) p = absurd (different-states (stays-stuck row) p)
+rest-of stuck (t ∷ row) p = different-states (stays-stuck row) p
 
 pub decides : (row : List Terminal) → Sentence row ↔ (run start row ≡ between)
 decides row = ((λ h. ap (run start) (sym (h .1)) ∙ through-text (h .0)), λ p. rest-of start row p)
@@ -234,6 +234,7 @@ ending (behind-element bs) h = (closing-row bs, closes-all bs)
 ending stuck h = absurd (h refl)
 
 pub viable : (row : List Terminal) → Begins row ↔ (run start row ≢ stuck)
-viable row =
-    ( (λ b e. different-states {s = run start (row ++ b .0)} (run-append start row (b .0) ∙ ap (λ s. run s (b .0)) e ∙ stays-stuck (b .0)) (decides (row ++ b .0) .0 (b .1)))
-    , λ h. let e = ending (run start row) h in (e .0, decides (row ++ e .0) .1 (run-append start row (e .0) ∙ e .1)))
+viable row = (
+  (λ b e. different-states {s = run start (row ++ b .0)} (run-append start row (b .0) ∙ ap (λ s. run s (b .0)) e ∙ stays-stuck (b .0)) (decides (row ++ b .0) .0 (b .1))),
+  λ h. let e = ending (run start row) h in (e .0, decides (row ++ e .0) .1 (run-append start row (e .0) ∙ e .1)),
+)

@@ -23,14 +23,16 @@ cut-short : First-fault (codes "path a;") 5 7
 cut-short = (_, at-end-of-text (lit≤ tt) refl (kept _ refl) (sentence-no _ refl))
 
 inner-brace : First-fault (codes "path {a;{b}} end") 7 8
-inner-brace =
-    (token Path 0 4 ∷ token BraceOpen 5 1 ∷ token Name 6 1 ∷ token Semicolon 7 1 ∷ [],
-     at-token (token BraceOpen 8 1) (token Name 9 1 ∷ token BraceClose 10 1 ∷ token BraceClose 11 1 ∷ token End 13 3 ∷ []) open-braces (lit≤ tt) refl (kept _ refl) (told open-braces _ refl))
+inner-brace = (
+  token Path 0 4 ∷ token BraceOpen 5 1 ∷ token Name 6 1 ∷ token Semicolon 7 1 ∷ [],
+  at-token (token BraceOpen 8 1) (token Name 9 1 ∷ token BraceClose 10 1 ∷ token BraceClose 11 1 ∷ token End 13 3 ∷ []) open-braces (lit≤ tt) refl (kept _ refl) (told open-braces _ refl),
+)
 
 again : First-fault (codes "path a;a end") 8 7
-again =
-    (token Path 0 4 ∷ token Name 5 1 ∷ token Semicolon 6 1 ∷ [],
-     at-token (token Name 7 1) (token End 9 3 ∷ []) name-once (lit≤ tt) refl (kept _ refl) (told name-once _ refl))
+again = (
+  token Path 0 4 ∷ token Name 5 1 ∷ token Semicolon 6 1 ∷ [],
+  at-token (token Name 7 1) (token End 9 3 ∷ []) name-once (lit≤ tt) refl (kept _ refl) (told name-once _ refl),
+)
 
 pub cases : Cases
 cases = (capital, long, two-names, cut-short, inner-brace, again)

@@ -239,7 +239,7 @@ first r row = breaks r row && every (λ s. cond (ltb (number s) (number r)) (not
 
 pub told : (r : Rule) (row : List Terminal) → first r row ≡ true → Told r row
 told r row p = record {
-    broken = breaks-true r row (and-left _ _ p);
-    smallest = λ s h. breaks-false s row (not-true _ (when-true (ltb (number s) (number r)) _ (lt-ltb _ _ h)
-        (every-true (λ q. cond (ltb (number q) (number r)) (not (breaks q row)) true) (and-right (breaks r row) _ p) s)));
-  }
+  broken = breaks-true r row (and-left _ _ p);
+  smallest = λ s h. breaks-false s row (not-true _ (when-true (ltb (number s) (number r)) _ (lt-ltb _ _ h)
+      (every-true (λ q. cond (ltb (number q) (number r)) (not (breaks q row)) true) (and-right (breaks r row) _ p) s)));
+}

@@ -71,9 +71,10 @@ module _ (r b k : ℕ) where
 
   pub prefix-low : (row : List Terminal) (o c : ℕ) → ((u v : List Terminal) → row ≡ u ++ v → o + opened r b u ≤ k + (c + closed r b u)) → Low o c row
   prefix-low [] o c h = tt
-  prefix-low (t ∷ row) o c h =
-      ( (let i = h (t ∷ []) row refl in omega arith)
-      , prefix-low row (o + opening r b t) (c + closing r b t) (λ u v p. let i = h (t ∷ u) v (ap (λ (w : List Terminal). t ∷ w) p) in omega arith))
+  prefix-low (t ∷ row) o c h = (
+    (let i = h (t ∷ []) row refl in omega arith),
+    prefix-low row (o + opening r b t) (c + closing r b t) (λ u v p. let i = h (t ∷ u) v (ap (λ (w : List Terminal). t ∷ w) p) in omega arith),
+  )
 
   shift : (row : List Terminal) (o c o′ c′ : ℕ) → o + c′ ≡ o′ + c → Low o c row → Low o′ c′ row
   shift [] o c o′ c′ e l = tt

@@ -91,12 +91,16 @@ module _ (text : List ℕ) where
     where
       known : List First
       known = firsts text before
+
       same : First → Bool
       same u = not (sameBytes (spelled-first text u) (spelling text t))
+
       more : List First
       more = firsts-front (with-first text known t) after .0
+
       whole : firsts text (before ++ (t ∷ after)) ≡ with-first text known t ++ more
       whole = firsts-append [] before (t ∷ after) ∙ firsts-front (with-first text known t) after .1
+
       go : (c : Bool) → eqb (number-of text known (spelling text t)) (length known) ≡ c → number-of text (firsts text (before ++ (t ∷ after))) (spelling text t) ≡ number-of text known (spelling text t)
       go true e =
           let k : with-first text known t ≡ known ++ (first-of t ∷ []) = ap (λ (c : Bool). cond c (known ++ (first-of t ∷ [])) known) (test-of known t true e h) in
@@ -131,50 +135,56 @@ module _ (text : List ℕ) where
     where
       known : List First
       known = firsts text b
+
       ns : List ℕ
       ns = names-of (terminals text b)
+
       n : ℕ
       n = number-of text (firsts text (tokens text)) (spelling text t)
+
       names-are : names-of (terminals text (b ++ (t ∷ []))) ≡ ns ++ cond (is-name (t .kind)) (n ∷ []) []
       names-are = ap names-of (map-append (terminal text) b (t ∷ [])) ∙ names-append (terminals text b) (terminal text t ∷ []) ∙ ap (λ (x : List ℕ). ns ++ x) (names-one (t .kind) n)
+
       from : (ms : List ℕ) (ks : List First) → names-of (terminals text (b ++ (t ∷ []))) ≡ ms → firsts text (b ++ (t ∷ [])) ≡ ks →
           ((m : ℕ) → among m ms ≡ ltb m (length ks)) → different ms ≡ length ks → Numbered (b ++ (t ∷ []))
       from ms ks e f x y = record {
-          below = λ m. ap (among m) e ∙ x m ∙ ap (λ (q : List First). ltb m (length q)) (sym f);
-          count = ap different e ∙ y ∙ ap length (sym f);
-        }
+        below = λ m. ap (among m) e ∙ x m ∙ ap (λ (q : List First). ltb m (length q)) (sym f);
+        count = ap different e ∙ y ∙ ap length (sym f);
+      }
+
       by-test : is-name (t .kind) ≡ true → n ≡ number-of text known (spelling text t) → (c : Bool) → eqb (number-of text known (spelling text t)) (length known) ≡ c → Numbered (b ++ (t ∷ []))
       by-test e s true f =
           let k : n ≡ length known = s ∙ eqb-true _ _ f in
           let z = length-append known (first-of t ∷ []) in
           from (ns ++ (n ∷ [])) (known ++ (first-of t ∷ [])) (names-are ∙ ap (λ (c : Bool). ns ++ cond c (n ∷ []) []) e)
-            (firsts-snoc b t ∙ ap (λ (c : Bool). cond c (known ++ (first-of t ∷ [])) known) (test-of known t true f e))
-            (λ m. among-snoc m ns n ∙ ap (λ (c : Bool). c || eqb m n) (h .below m) ∙ (let l : length (known ++ (first-of t ∷ [])) ≡ length known + 1 = z in grind (arith, tells)))
-            (let d = different-snoc [] ns n in let i = h .below n in let j = h .count in
-             let q : among n ns ≡ false = i ∙ grind (arith, tells) in
-             let d′ : different (ns ++ (n ∷ [])) ≡ different ns + cond false 0 1 = d ∙ ap (λ (c : Bool). different ns + cond c 0 1) q in omega arith)
+          (firsts-snoc b t ∙ ap (λ (c : Bool). cond c (known ++ (first-of t ∷ [])) known) (test-of known t true f e))
+          (λ m. among-snoc m ns n ∙ ap (λ (c : Bool). c || eqb m n) (h .below m) ∙ (let l : length (known ++ (first-of t ∷ [])) ≡ length known + 1 = z in grind (arith, tells)))
+          (let d = different-snoc [] ns n in let i = h .below n in let j = h .count in
+          let q : among n ns ≡ false = i ∙ grind (arith, tells) in
+          let d′ : different (ns ++ (n ∷ [])) ≡ different ns + cond false 0 1 = d ∙ ap (λ (c : Bool). different ns + cond c 0 1) q in omega arith)
       by-test e s false f =
           let k : n ≢ length known = λ q. eqb-false _ _ f (sym s ∙ q) in
           let l : n ≤ length known = let z = leading-bound (λ u. not (sameBytes (spelled-first text u) (spelling text t))) known in omega arith in
           from (ns ++ (n ∷ [])) known (names-are ∙ ap (λ (c : Bool). ns ++ cond c (n ∷ []) []) e)
-            (firsts-snoc b t ∙ ap (λ (c : Bool). cond c (known ++ (first-of t ∷ [])) known) (test-of known t false f e))
-            (λ m. among-snoc m ns n ∙ ap (λ (c : Bool). c || eqb m n) (h .below m) ∙ grind (arith, tells))
-            (let d = different-snoc [] ns n in let i = h .below n in let j = h .count in
-             let q : among n ns ≡ true = i ∙ grind (arith, tells) in
-             let d′ : different (ns ++ (n ∷ [])) ≡ different ns + cond true 0 1 = d ∙ ap (λ (c : Bool). different ns + cond c 0 1) q in omega arith)
+          (firsts-snoc b t ∙ ap (λ (c : Bool). cond c (known ++ (first-of t ∷ [])) known) (test-of known t false f e))
+          (λ m. among-snoc m ns n ∙ ap (λ (c : Bool). c || eqb m n) (h .below m) ∙ grind (arith, tells))
+          (let d = different-snoc [] ns n in let i = h .below n in let j = h .count in
+          let q : among n ns ≡ true = i ∙ grind (arith, tells) in
+          let d′ : different (ns ++ (n ∷ [])) ≡ different ns + cond true 0 1 = d ∙ ap (λ (c : Bool). different ns + cond c 0 1) q in omega arith)
+
       by-kind : (c : Bool) → is-name (t .kind) ≡ c → Numbered (b ++ (t ∷ []))
       by-kind true e =
           by-test e (ap (λ (x : List Token). number-of text (firsts text x) (spelling text t)) p ∙ stable b a t e) (eqb (number-of text known (spelling text t)) (length known)) refl
       by-kind false e =
           from ns known (names-are ∙ ap (λ (c : Bool). ns ++ cond c (n ∷ []) []) e ∙ append-nil ns)
-            (firsts-snoc b t ∙ ap (λ (c : Bool). cond (c && eqb (number-of text known (spelling text t)) (length known)) (known ++ (first-of t ∷ [])) known) e)
-            (h .below) (h .count)
+          (firsts-snoc b t ∙ ap (λ (c : Bool). cond (c && eqb (number-of text known (spelling text t)) (length known)) (known ++ (first-of t ∷ [])) known) e)
+          (h .below) (h .count)
 
   numbered-from : (b a rest : List Token) → tokens text ≡ b ++ (a ++ rest) → Numbered b → Numbered (b ++ a)
   numbered-from b [] rest p h = subst Numbered (sym (append-nil b)) h
   numbered-from b (t ∷ a) rest p h =
       subst Numbered (append-assoc b (t ∷ []) a)
-        (numbered-from (b ++ (t ∷ [])) a rest (p ∙ sym (append-assoc b (t ∷ []) (a ++ rest))) (numbered-more b (a ++ rest) t p h))
+      (numbered-from (b ++ (t ∷ [])) a rest (p ∙ sym (append-assoc b (t ∷ []) (a ++ rest))) (numbered-more b (a ++ rest) t p h))
 
   pub numbered : (before rest : List Token) → tokens text ≡ before ++ rest → Numbered before
   numbered before rest p = numbered-from [] before rest p (record { below = λ n. grind (arith, tells); count = refl })
@@ -207,16 +217,22 @@ module _ (text : List ℕ) where
     where
       known : List First
       known = firsts text b
+
       all : List First
       all = firsts text (b ++ (t ∷ a))
+
       front : (more : List First) × (firsts-from text (with-first text known t) a ≡ with-first text known t ++ more)
       front = firsts-front text (with-first text known t) a
+
       whole : all ≡ with-first text known t ++ front .0
       whole = firsts-append text [] b (t ∷ a) ∙ front .1
+
       longer : length (with-first text known t) ≤ length all
       longer = let e = ap length whole in let l = length-front (with-first text known t) (front .0) in omega arith
+
       same : number-of text all (spelling text t) ≡ number-of text known (spelling text t)
       same = stable text b a t h
+
       go : (c : Bool) → eqb (number-of text known (spelling text t)) (length known) ≡ c → number-of text all (spelling text t) < length all
       go true e =
           let k = ap length (ap (λ (c : Bool). cond c (known ++ (first-of t ∷ [])) known) (test-of text known t true e h)) in
@@ -246,14 +262,17 @@ numbers-tell-names text b a b′ a′ t u p q e f = (there, back)
   where
     fs : List First
     fs = firsts text (tokens text)
+
     reach : (b a : List Token) (t : Token) → tokens text ≡ b ++ (t ∷ a) → t .kind ≡ Name → number-of text fs (spelling text t) < length fs
     reach b a t p e = subst (λ (ts : List Token). number-of text (firsts text ts) (spelling text t) < length (firsts text ts)) (sym p) (in-reach text b a t (ap is-name e))
+
     there : terminal text t ≡ terminal text u → spelling text t ≡ spelling text u
     there x =
         let n : number-of text fs (spelling text t) ≡ number-of text fs (spelling text u) = word-same (sym (as-name text t e) ∙ x ∙ as-name text u f) in
         let l = reach b a t p e in
         let m = reach b′ a′ u q f in
         sym (spelled-as text fs (first-of t) t l) ∙ ap (λ (i : ℕ). spelled-first text (getD fs i (first-of t))) n ∙ spelled-as text fs (first-of t) u m
+
     back : spelling text t ≡ spelling text u → terminal text t ≡ terminal text u
     back x = as-name text t e ∙ ap (λ (s : List ℕ). word (leading (λ v. not (sameBytes (spelled-first text v) s)) fs)) x ∙ sym (as-name text u f)
 

@@ -59,15 +59,18 @@ word-step p b bs t e h = go (leb n 16) refl
   where
     n : ℕ
     n = leading in-name (b ∷ bs)
+
     w : Token
     w = token (word-kind (take n (b ∷ bs))) p n
+
     behind : row-from true (suc p) bs ≡ row-from false (p + n) (drop n (b ∷ bs))
     behind = rw e (inside-word (suc p) bs ∙ jump p (leading in-name bs) b bs)
+
     go : (x : Bool) → leb n 16 ≡ x → Step p (b ∷ bs) t
     go true f =
         let i : w ≡ t = found-same (rw f at h) in
         subst (Step p (b ∷ bs)) i
-          (n, refl, leading-bound (b ∷ bs), ap (λ (k : Byte). row-at k false p (b ∷ bs) (λ v. row-from v (suc p) bs)) e ∙ ap (λ (x : Bool). cond x (then w (row-from true (suc p) bs)) (stopped (long-name p))) f ∙ ap (then w) behind)
+        (n, refl, leading-bound (b ∷ bs), ap (λ (k : Byte). row-at k false p (b ∷ bs) (λ v. row-from v (suc p) bs)) e ∙ ap (λ (x : Bool). cond x (then w (row-from true (suc p) bs)) (stopped (long-name p))) f ∙ ap (then w) behind)
     go false f = absurd (no-found {s = long-name p} (rw f at h))
 
 steps : (p : ℕ) (bs : List ℕ) (t : Token) → next p bs ≡ found t → Step p bs t
@@ -86,15 +89,17 @@ steps p (b ∷ bs) t h = go (byte b) refl (steps (suc p) bs t)
     go (sign k) e i =
         let f : suc p ≡ p + 1 = omega arith in
         subst (Step p (b ∷ bs)) (found-same (rw e at h))
-          (1, refl, omega arith, rw e (ap (λ (m : ℕ). then (token k p 1) (row-from false m bs)) f))
+        (1, refl, omega arith, rw e (ap (λ (m : ℕ). then (token k p 1) (row-from false m bs)) f))
 
 word-stop : (p b : ℕ) (bs : List ℕ) (s : Stop) → byte b ≡ letter → next-word p (b ∷ bs) ≡ none s → row-from false p (b ∷ bs) ≡ stopped s
 word-stop p b bs s e h = go (leb n 16) refl
   where
     n : ℕ
     n = leading in-name (b ∷ bs)
+
     w : Token
     w = token (word-kind (take n (b ∷ bs))) p n
+
     go : (x : Bool) → leb n 16 ≡ x → row-from false p (b ∷ bs) ≡ stopped s
     go true f = absurd (no-found {s = s} {t = w} (sym (rw f at h)))
     go false f = ap (λ (k : Byte). row-at k false p (b ∷ bs) (λ v. row-from v (suc p) bs)) e ∙ ap (λ (x : Bool). cond x (then w (row-from true (suc p) bs)) (stopped (long-name p))) f ∙ ap stopped (none-same (rw f at h))
@@ -121,10 +126,11 @@ pub reads-on : (text : List ℕ) (before : List Token) (q : ℕ) (t : Token) →
 reads-on text before q t r h =
     let s = steps q (drop q text) t h in
     let j = s .0 in
-    let e : drop j (drop q text) ≡ drop (t .place + t .len) text = drop-drop j q text ∙ ap (λ (m : ℕ). drop m text) (sym (s .1)) in
-    ( (let l = r .0 in let a = s .1 in let b = s .2 in let c = length-drop q text in omega arith)
-    , r .1 ∙ ap (onto before) (s .3 ∙ ap (λ (m : ℕ). then t (row-from false m (drop j (drop q text)))) (sym (s .1)) ∙ ap (λ (x : List ℕ). then t (row-from false (t .place + t .len) x)) e)
-      ∙ onto-then before t (row-from false (t .place + t .len) (drop (t .place + t .len) text)))
+    let e : drop j (drop q text) ≡ drop (t .place + t .len) text = drop-drop j q text ∙ ap (λ (m : ℕ). drop m text) (sym (s .1)) in (
+      (let l = r .0 in let a = s .1 in let b = s .2 in let c = length-drop q text in omega arith),
+      r .1 ∙ ap (onto before) (s .3 ∙ ap (λ (m : ℕ). then t (row-from false m (drop j (drop q text)))) (sym (s .1)) ∙ ap (λ (x : List ℕ). then t (row-from false (t .place + t .len) x)) e)
+          ∙ onto-then before t (row-from false (t .place + t .len) (drop (t .place + t .len) text)),
+    )
 
 pub stops : (text : List ℕ) (before : List Token) (q : ℕ) (s : Stop) → Reached text before q → next q (drop q text) ≡ none s → row-of text ≡ onto before (stopped s)
 stops text before q s r h = r .1 ∙ ap (onto before) (halts q (drop q text) s h)

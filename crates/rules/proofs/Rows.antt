@@ -98,4 +98,3 @@ paths-path s = let p = many-append paths (yield-sequence s) (end ∷ []) in let 
 pub paths-text : (t : Text) → how-many paths (yield-text t) ≡ paths-of-text t
 paths-text (one s) = paths-path s
 paths-text (more s t) = let p = many-append paths (yield-path s) (yield-text t) in let i = paths-path s in let j = paths-text t in omega arith
-

@@ -14,7 +14,7 @@ use Rattle.rules.specs.Automaton.{start, run}
 use Rattle.tokens.specs.Tokens.{Stop, at-end, no-token, long-name, tokens, stop}
 use Rattle.rules.specs.Names.{terminal, terminals}
 use Rattle.rules.specs.Rules.{Rule, number, Breaks, Kept, Told}
-use Rattle.rules.specs.Faults.{Refused, too-long, at-token, at-byte, at-name, at-end-of-text, First-fault, Accepted, One-fault, Told-or-accepted}
+use Rattle.rules.specs.Faults.{Refused, too-long, at-token, at-byte, at-name, at-end-of-text, First-fault, One-fault}
 use Rattle.paths.proofs.Lists.{two-cuts}
 use Rattle.rules.proofs.Decided.{judged, Judged, kept-nil, kept-snoc, is-between, sentence-yes, sentence-no}
 
@@ -29,7 +29,7 @@ pub record Passes (text : List ℕ) : Type 0 where
 module _ (text : List ℕ) where
   abbrev Scanned : List Token → Type 0
   Scanned ts =
-        Kept (terminals text ts)
+      Kept (terminals text ts)
       ⊎ ((b : List Token) × (t : Token) × (a : List Token) × (r : Rule) × (ts ≡ b ++ (t ∷ a)) × Kept (terminals text b) × Told r (terminals text (b ++ (t ∷ []))))
 
   scan : (b a : List Token) → Kept (terminals text b) → Scanned (b ++ a)
@@ -41,7 +41,7 @@ module _ (text : List ℕ) where
       go (inl h) later =
           let e : terminals text (b ++ (t ∷ [])) ≡ terminals text b ++ (terminal text t ∷ []) = map-append (terminal text) b (t ∷ []) in
           subst Scanned (append-assoc b (t ∷ []) a)
-            (later (subst Kept (sym e) (kept-snoc (terminals text b) (terminal text t) k (λ r. subst (λ (w : List Terminal). ¬ Breaks r w) e (h r)))))
+          (later (subst Kept (sym e) (kept-snoc (terminals text b) (terminal text t) k (λ r. subst (λ (w : List Terminal). ¬ Breaks r w) e (h r)))))
 
   abbrev Outcome : Type 0
   Outcome = Passes text ⊎ ((n p : ℕ) × First-fault text n p)
@@ -69,7 +69,7 @@ module _ (text : List ℕ) where
   no-token-told : (ts b a : List Token) (t : Token) (r : Rule) → Kept (terminals text ts) → ts ≡ b ++ (t ∷ a) → Told r (terminals text (b ++ (t ∷ []))) → ⊥
   no-token-told ts b a t r k p w =
       k (terminals text (b ++ (t ∷ []))) (terminals text a) r
-        (ap (terminals text) (p ∙ sym (append-assoc b (t ∷ []) a)) ∙ map-append (terminal text) (b ++ (t ∷ [])) a) (w .broken)
+      (ap (terminals text) (p ∙ sym (append-assoc b (t ∷ []) a)) ∙ map-append (terminal text) (b ++ (t ∷ [])) a) (w .broken)
 
   same-number : (r s : Rule) (row : List Terminal) → Told r row → Told s row → number r ≡ number s
   same-number r s row x y = go (decLt (number r) (number s)) (decLt (number s) (number r))
@@ -92,6 +92,7 @@ module _ (text : List ℕ) where
       left (x ∷ m) e f =
           let g : x ≡ t′ = cc in
           absurd (no-token-told b b′ m t′ r′ k (e ∙ ap (λ (u : Token). b′ ++ (u ∷ m)) g) w′)
+
       right : (m : List Token) → b′ ≡ b ++ m → (t ∷ a) ≡ m ++ (t′ ∷ a′) → (b ≡ b′) × (number r ≡ number r′) × (t .place ≡ t′ .place)
       right [] e f =
           let g : t ≡ t′ = cc in
@@ -100,6 +101,7 @@ module _ (text : List ℕ) where
       right (x ∷ m) e f =
           let g : x ≡ t = cc in
           absurd (no-token-told b′ b m t r k′ (e ∙ ap (λ (u : Token). b ++ (u ∷ m)) g) w)
+
       go : ((m : List Token) × (b ≡ b′ ++ m) × ((t′ ∷ a′) ≡ m ++ (t ∷ a))) ⊎ ((m : List Token) × (b′ ≡ b ++ m) × ((t ∷ a) ≡ m ++ (t′ ∷ a′))) →
           (b ≡ b′) × (number r ≡ number r′) × (t .place ≡ t′ .place)
       go (inl q) = left (q .0) (q .1) (q .2)
@@ -141,10 +143,3 @@ module _ (text : List ℕ) where
 
 pub one-fault : One-fault
 one-fault text b b′ n m p q f g = one text f g
-
-pub told-or-accepted : Told-or-accepted
-told-or-accepted text = go (outcome text)
-  where
-    go : Passes text ⊎ ((n p : ℕ) × First-fault text n p) → Accepted text ⊎ ((n p : ℕ) × First-fault text n p)
-    go (inl s) = inl (λ n p f. passes-no-fault text s (f .1))
-    go (inr f) = inr f

@@ -49,13 +49,14 @@ module _ (text : List ℕ) (before : List Token) (short : length text ≤ 16384)
   refused-short h n =
       let e = all-tokens at-end h in
       subst (λ (ts : List Token). Refused text ts 5 (length text)) e
-        (at-end-of-text short (ap (λ (r : Row). r .stop) h) (all-kept at-end h)
-          (λ s. n (decides (terminals text before) .0 (subst (λ (ts : List Token). Sentence (terminals text ts)) e s))))
+      (at-end-of-text short (ap (λ (r : Row). r .stop) h) (all-kept at-end h)
+      (λ s. n (decides (terminals text before) .0 (subst (λ (ts : List Token). Sentence (terminals text ts)) e s))))
 
   -- where the text is over behind a path, the grammar derives it
   pub derived : row-of text ≡ onto before (stopped at-end) → run start (terminals text before) ≡ between → Derivable text × (tokens text ≡ before)
   derived h b =
       let e = all-tokens at-end h in
-      let s = decides (terminals text before) .1 b in
-      ( (s .0, record { whole = ap (λ (r : Row). r .stop) h; yields = s .1 ∙ ap (terminals text) (sym e) }, kept-within (s .0) (subst Kept (sym (s .1)) k), short)
-      , e)
+      let s = decides (terminals text before) .1 b in (
+        (s .0, record { whole = ap (λ (r : Row). r .stop) h; yields = s .1 ∙ ap (terminals text) (sym e) }, kept-within (s .0) (subst Kept (sym (s .1)) k), short),
+        e,
+      )

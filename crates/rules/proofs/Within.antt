@@ -11,7 +11,7 @@ use Rattle.paths.specs.Sizes.{how-many, names, brackets, paths}
 use Rattle.paths.proofs.Unambiguous.{unambiguous}
 use Rattle.rules.specs.Rules.{opening, opened, closed, names-of, different, depth-of-text, Within, Limits-count}
 use Rattle.rules.specs.Rules.{Rule, begins-sentence, open-brackets, open-braces, name-once, all-paths, all-names, all-occurrences, all-brackets, Breaks, Kept}
-use Rattle.rules.specs.Faults.{Accepted, Derivable, Acceptance, One-derivation, First-fault}
+use Rattle.rules.specs.Faults.{Accepted, Derivable, Acceptance, One-derivation, Told-or-derived, First-fault}
 use Rattle.rules.proofs.Among.{sure, different-mono}
 use Rattle.rules.proofs.Rows.{many-append, names-append, names-text, brackets-text, paths-text}
 use Rattle.rules.proofs.Nesting.{Each, Low, Nested, low-prefix, prefix-low, low-text, text-low, all-sequence, braces-sequence}
@@ -49,8 +49,8 @@ kept-within t k =
     let all : (r : Rule) → ¬ Breaks r row = λ r. k row [] r (sym (append-nil row)) in
     record {
       proper = each-proper t
-        (low-text 0 1 1 t (kept-low 0 1 1 row (λ u v p. k u v open-braces p)))
-        (fresh-text t [] (prefix-fresh row [] (λ u v p. sure _ (k u v name-once p))));
+          (low-text 0 1 1 t (kept-low 0 1 1 row (λ u v p. k u v open-braces p)))
+          (fresh-text t [] (prefix-fresh row [] (λ u v p. sure _ (k u v name-once p))));
       depth = nested-depth t (low-text 1 1 16 t (kept-low 1 1 16 row (λ u v p. k u v open-brackets p)));
       paths = let e = paths-text t in let h = all all-paths in omega arith;
       names = let e = ap different (names-text t) in let h = all all-names in omega arith;
@@ -80,18 +80,33 @@ within-kept t w u v all-brackets p h =
 pub one-derivation : One-derivation
 one-derivation text t t′ d d′ = unambiguous t t′ (d .yields ∙ sym (d′ .yields))
 
-pub acceptance : Acceptance
-acceptance text = (there (outcome text), back)
+passes-derived : (text : List ℕ) → Passes text → Derivable text
+passes-derived text s =
+    let t = s .sentence .0 in
+    let e = s .sentence .1 in
+    (t, record { whole = s .whole; yields = e }, kept-within t (subst Kept (sym e) (s .keeps)), s .short)
+
+derived-passes : (text : List ℕ) → Derivable text → Passes text
+derived-passes text d = record {
+  short = d .3;
+  whole = d .1 .whole;
+  keeps = subst Kept (d .1 .yields) (within-kept (d .0) (d .2));
+  sentence = (d .0, d .1 .yields);
+}
+
+pub told-or-derived : Told-or-derived
+told-or-derived text = go (outcome text)
   where
-    there : Passes text ⊎ ((n p : ℕ) × First-fault text n p) → Accepted text → Derivable text
-    there (inl s) a =
-        let t = s .sentence .0 in
-        let e = s .sentence .1 in
-        (t, record { whole = s .whole; yields = e }, kept-within t (subst Kept (sym e) (s .keeps)), s .short)
+    go : Passes text ⊎ ((n p : ℕ) × First-fault text n p) → Derivable text ⊎ ((n p : ℕ) × First-fault text n p)
+    go (inl s) = inl (passes-derived text s)
+    go (inr f) = inr f
+
+pub acceptance : Acceptance
+acceptance text = (there (told-or-derived text), λ d n p f. passes-no-fault text (derived-passes text d) (f .1))
+  where
+    there : Derivable text ⊎ ((n p : ℕ) × First-fault text n p) → Accepted text → Derivable text
+    there (inl d) a = d
     there (inr f) a = absurd (a (f .0) (f .1) (f .2))
-    back : Derivable text → Accepted text
-    back d n p f = passes-no-fault text
-        (record { short = d .3; whole = d .1 .whole; keeps = subst Kept (d .1 .yields) (within-kept (d .0) (d .2)); sentence = (d .0, d .1 .yields) }) (f .1)
 
 -- ---- the limits, counted on the terminals
 pub count-names : (row : List Terminal) → how-many names row ≡ length (names-of row)
@@ -119,7 +134,8 @@ count-brackets (end ∷ row) = let i = count-brackets row in omega arith
 count-brackets (word n ∷ row) = let i = count-brackets row in omega arith
 
 pub limits-count : Limits-count
-limits-count t w =
-    ( (let e = count-names (yield-text t) in let f = ap length (names-text t) in let k = w .occurrences in omega arith)
-    , (let e = count-brackets (yield-text t) in let f = brackets-text t in let k = w .brackets in omega arith)
-    , (let e = paths-text t in let k = w .paths in omega arith))
+limits-count t w = (
+  (let e = count-names (yield-text t) in let f = ap length (names-text t) in let k = w .occurrences in omega arith),
+  (let e = count-brackets (yield-text t) in let f = brackets-text t in let k = w .brackets in omega arith),
+  (let e = paths-text t in let k = w .paths in omega arith),
+)

@@ -57,9 +57,9 @@ One-derivation = (text : List ℕ) (t t′ : Text) → Derives text t → Derive
 abbrev pub One-fault : Type 0
 One-fault = (text : List ℕ) (b b′ : List Token) (n m p q : ℕ) → Refused text b n p → Refused text b′ m q → (b ≡ b′) × (n ≡ m) × (p ≡ q)
 
--- every text is accepted, or has a first fault
-abbrev pub Told-or-accepted : Type 0
-Told-or-accepted = (text : List ℕ) → Accepted text ⊎ ((n p : ℕ) × First-fault text n p)
+-- every text is derived within the limits, or has a first fault
+abbrev pub Told-or-derived : Type 0
+Told-or-derived = (text : List ℕ) → Derivable text ⊎ ((n p : ℕ) × First-fault text n p)
 
 -- tokens that keep the rules are at most 1,056, with at most 64 first occurrences
 abbrev pub Room-enough : Type 0
@@ -76,7 +76,7 @@ Names-counted = (text : List ℕ) (t : Text) → Derives text t → different (n
 -- texts at fault
 abbrev pub Cases : Type 0
 Cases =
-      First-fault (codes "path A end") 2 5
+    First-fault (codes "path A end") 2 5
     × First-fault (codes "path abcdefghijklmnopq end") 3 5
     × First-fault (codes "path a b end") 4 7
     × First-fault (codes "path a;") 5 7

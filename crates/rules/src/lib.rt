@@ -1,7 +1,7 @@
 // The theory of reading a text: the numbers of its names, its grammar's rules, its limits, its first fault.
 ghost use Rattle.rules.specs.Names.{Numbers-tell-names, Numbers-stay};
 ghost use Rattle.rules.specs.Rules.{Limits-count};
-ghost use Rattle.rules.specs.Faults.{Acceptance, One-derivation, One-fault, Told-or-accepted, Room-enough, Names-numbered, Names-counted, Cases};
+ghost use Rattle.rules.specs.Faults.{Acceptance, One-derivation, One-fault, Told-or-derived, Room-enough, Names-numbered, Names-counted, Cases};
 
 // A text is accepted exactly when the grammar derives it within the limits and path conditions.
 pub fn accepted_texts_are_derived() -> u8
@@ -24,9 +24,9 @@ pub fn the_fault_is_one() -> u8
     0
 }
 
-// Every text is accepted or has a first fault.
+// Every text is derived within the limits or has a first fault.
 pub fn every_text_is_judged() -> u8
-    ensures theorem { λ _. ⌜ Told-or-accepted ⌝ }
+    ensures theorem { λ _. ⌜ Told-or-derived ⌝ }
 {
     0
 }

@@ -24,7 +24,7 @@ use Rattle.translation.specs.declared.Translated.{Translated}
 use Rattle.translation.specs.declared.steps.Place.{Place}
 use Rattle.translation.specs.declared.steps.Between.{Between}
 use Rattle.translation.specs.Rows.{Source, source, row, ahead, kind-of, kinds-from, front, Extends, Added, later, Past}
-use Rattle.translation.specs.Trees.{spell-sequence, spell-selection, spell-text, by-round, by-brace, by-end, scan, Done, Sequence-told, Selection-told, Element-told, Over, Paths-told}
+use Rattle.translation.specs.Trees.{spell-sequence, spell-selection, spell-text, by-round, by-brace, by-end, scan, Done, Sequence-told, Selection-told, Element-told, Bracket-told, Over, Paths-told}
 use Rattle.translation.proofs.Lists.{take-twice, beyond-later, row-inside, row-next, kinds-are}
 use Rattle.translation.proofs.Scan.{clash, later-is, closed-comma, scan-last, scan-more}
 use Rattle.translation.proofs.Spelled.{taken-sequence}
@@ -35,10 +35,10 @@ extends-none t = record { places = refl; more = omega arith; beyond = refl }
 
 pub extends-then : (t u v : Table Occurrence) → Extends t u → Extends u v → Extends t v
 extends-then t u v a b = record {
-    places = b .places ∙ a .places;
-    more = omega (arith, a .more, b .more);
-    beyond = b .beyond ∙ beyond-later (length (contents u)) (length (contents v)) (allPlaces u) (allPlaces t) (b .more) (a .beyond);
-    }
+  places = b .places ∙ a .places;
+  more = omega (arith, a .more, b .more);
+  beyond = b .beyond ∙ beyond-later (length (contents u)) (length (contents v)) (allPlaces u) (allPlaces t) (b .more) (a .beyond);
+}
 
 added-then : (t u v : Table Occurrence) (os ps : List TheOccurrence) → Extends t u → Added t os u → Added u ps v → Added t (os ++ ps) v
 added-then t u v os ps k a b =
@@ -82,8 +82,8 @@ module _ (text : List ℕ) (T : Table Token) (names : Table TheName) where
         let s′ = s + semaphores-in-element e in
         let c′ = c + counters-in-element e in
         let f = sel l rest p s′ c′ left right
-              (record { few = st .few; semaphore = past .semaphore ∙ d .semaphore; counter = past .counter ∙ d .counter; number = st .number; left-door = st .left-door; right-door = st .right-door }) nc
-              (past-row S here next comma (spell-selection l rest) (past .moved) (d .row)) (omega arith) (omega arith) (omega arith) in
+        (record { few = st .few; semaphore = past .semaphore ∙ d .semaphore; counter = past .counter ∙ d .counter; number = st .number; left-door = st .left-door; right-door = st .right-door }) nc
+        (past-row S here next comma (spell-selection l rest) (past .moved) (d .row)) (omega arith) (omega arith) (omega arith) in
         record { row = f .row; semaphore = f .semaphore ∙ omega arith; counter = f .counter ∙ omega arith; added = added-then t u v _ _ kept (d .added) (f .added) }
 
     -- ---- a sequence
@@ -113,12 +113,18 @@ module _ (text : List ℕ) (T : Table Token) (names : Table TheName) where
         let small : m < 256 = omega arith in
         let below : n < 256 = omega arith in
         let d = sel l (semicolon ∷ spell-sequence q rest) p s c left (plain m)
-              (record { few = st .few; semaphore = st .semaphore; counter = st .counter; number = fp ∙ st .number; left-door = ap door-of fl ∙ st .left-door; right-door = fr below ∙ ap plain same })
-              (λ x. clash (cc)) h (omega arith) (omega arith) (omega arith) in
+        (record { few = st .few; semaphore = st .semaphore; counter = st .counter; number = fp ∙ st .number; left-door = ap door-of fl ∙ st .left-door; right-door = fr below ∙ ap plain same })
+        (λ x. clash (cc)) h (omega arith) (omega arith) (omega arith) in
         let g = seq q rest p (m + 1) c′ (plain m) right
-              (record { few = st .few; semaphore = gs ∙ ap later (past .semaphore ∙ d .semaphore) ∙ later-is m small; counter = gc ∙ past .counter ∙ d .counter;
-                number = op ∙ st .number; left-door = ol below ∙ ap plain same; right-door = ap door-of or′ ∙ st .right-door })
-              cl (ap (λ i. ahead S i) gt ∙ past-row S here next semicolon (spell-sequence q rest) (past .moved) (d .row)) (omega arith) (omega arith) (omega arith) in
+        (record {
+          few = st .few;
+          semaphore = gs ∙ ap later (past .semaphore ∙ d .semaphore) ∙ later-is m small;
+          counter = gc ∙ past .counter ∙ d .counter;
+          number = op ∙ st .number;
+          left-door = ol below ∙ ap plain same;
+          right-door = ap door-of or′ ∙ st .right-door;
+        })
+        cl (ap (λ i. ahead S i) gt ∙ past-row S here next semicolon (spell-sequence q rest) (past .moved) (d .row)) (omega arith) (omega arith) (omega arith) in
         record { row = g .row; semaphore = g .semaphore ∙ omega arith; counter = g .counter ∙ omega arith; added = added-then t u v _ _ kept (d .added) (g .added) }
 
     -- ---- an element
@@ -128,49 +134,60 @@ module _ (text : List ℕ) (T : Table Token) (names : Table TheName) where
     element-name start b n o next t u kind past num op oo ol or′ a (name m) rest p s c left right st h hs hc hd =
         let same : n ≡ m = num m rest h (st .few) in
         let one : told o ≡ record { path = p; operation = m; left = left; right = right } =
-              λ i. record { path = (op ∙ st .number) i; operation = (oo ∙ same) i; left = (ap door-of ol ∙ st .left-door) i; right = (ap door-of or′ ∙ st .right-door) i } in
-        record { row = past-row S start next (word m) rest (past .moved) h; semaphore = past .semaphore ∙ st .semaphore ∙ omega arith; counter = past .counter ∙ st .counter ∙ omega arith;
-          added = subst (λ x. Added t (x ∷ []) u) one a }
+        λ i. record { path = (op ∙ st .number) i; operation = (oo ∙ same) i; left = (ap door-of ol ∙ st .left-door) i; right = (ap door-of or′ ∙ st .right-door) i } in
+        record {
+          row = past-row S start next (word m) rest (past .moved) h;
+          semaphore = past .semaphore ∙ st .semaphore ∙ omega arith;
+          counter = past .counter ∙ st .counter ∙ omega arith;
+          added = subst (λ x. Added t (x ∷ []) u) one a;
+        }
     element-name start b n o next t u kind past num op oo ol or′ a (round q) rest p s c left right st h hs hc hd = let k = kind ∙ ap front (ka (start .token) _ h) in clash (cc)
     element-name start b n o next t u kind past num op oo ol or′ a (brace q) rest p s c left right st h hs hc hd = let k = kind ∙ ap front (ka (start .token) _ h) in clash (cc)
 
-    pub element-round : (start : Place) (b : Between) (next here to : Place) (t u : Table Occurrence) → RoundOpen ≡ front (kinds-from T (start .token)) → Past (contents T) start next →
-        Sequence-told S (depth - 1) next b here t u → Past (contents T) here to → Element-told S depth start b to t u
-    element-round start b next here to t u kind past seq r (name m) rest p s c left right st h hs hc hd = let k = kind ∙ ap front (ka (start .token) _ h) in clash (cc)
-    element-round start b next here to t u kind past seq r (round q) rest p s c left right st h hs hc hd =
-        let d = seq q (round-close ∷ rest) p s c left right
-              (record { few = st .few; semaphore = past .semaphore ∙ st .semaphore; counter = past .counter ∙ st .counter; number = st .number; left-door = st .left-door; right-door = st .right-door })
-              by-round (past-row S start next round-open (spell-sequence q (round-close ∷ rest)) (past .moved) h) hs hc (omega arith) in
-        record { row = past-row S here to round-close rest (r .moved) (d .row); semaphore = r .semaphore ∙ d .semaphore; counter = r .counter ∙ d .counter; added = d .added }
-    element-round start b next here to t u kind past seq r (brace q) rest p s c left right st h hs hc hd = let k = kind ∙ ap front (ka (start .token) _ h) in clash (cc)
+    pub element-round : (start : Place) (b : Between) (next to : Place) (t u : Table Occurrence) → RoundOpen ≡ front (kinds-from T (start .token)) → Past (contents T) start next →
+        Bracket-told S depth next b to t u → Element-told S depth start b to t u
+    element-round start b next to t u kind past br (name m) rest p s c left right st h hs hc hd = let k = kind ∙ ap front (ka (start .token) _ h) in clash (cc)
+    element-round start b next to t u kind past br (round q) rest p s c left right st h hs hc hd =
+        br q round-close rest p s c left right
+        (record { few = st .few; semaphore = past .semaphore ∙ st .semaphore; counter = past .counter ∙ st .counter; number = st .number; left-door = st .left-door; right-door = st .right-door })
+        by-round (past-row S start next round-open (spell-sequence q (round-close ∷ rest)) (past .moved) h) hs hc (omega arith)
+    element-round start b next to t u kind past br (brace q) rest p s c left right st h hs hc hd = let k = kind ∙ ap front (ka (start .token) _ h) in clash (cc)
 
-    pub element-brace : (start : Place) (b inner : Between) (next go here to : Place) (t u : Table Occurrence) → BraceOpen ≡ front (kinds-from T (start .token)) → Past (contents T) start next →
+    pub element-brace : (start : Place) (b inner : Between) (next go to : Place) (t u : Table Occurrence) → BraceOpen ≡ front (kinds-from T (start .token)) → Past (contents T) start next →
         inner .path ≡ b .path → (start .counter < 256 → door-of (inner .left) ≡ with-counter (start .counter) (door-of (b .left))) →
         (start .counter < 256 → door-of (inner .right) ≡ with-counter (start .counter) (door-of (b .right))) →
-        go .token ≡ next .token → go .semaphore ≡ next .semaphore → go .counter ≡ later (next .counter) →
-        Sequence-told S (depth - 1) go inner here t u → Past (contents T) here to → Element-told S depth start b to t u
-    element-brace start b inner next go here to t u kind past ip il ir gt gs gc seq r (name m) rest p s c left right st h hs hc hd = let k = kind ∙ ap front (ka (start .token) _ h) in clash (cc)
-    element-brace start b inner next go here to t u kind past ip il ir gt gs gc seq r (round q) rest p s c left right st h hs hc hd = let k = kind ∙ ap front (ka (start .token) _ h) in clash (cc)
-    element-brace start b inner next go here to t u kind past ip il ir gt gs gc seq r (brace q) rest p s c left right st h hs hc hd =
+        go .token ≡ next .token → go .semaphore ≡ next .semaphore → go .counter ≡ later (next .counter) → Bracket-told S depth go inner to t u → Element-told S depth start b to t u
+    element-brace start b inner next go to t u kind past ip il ir gt gs gc br (name m) rest p s c left right st h hs hc hd = let k = kind ∙ ap front (ka (start .token) _ h) in clash (cc)
+    element-brace start b inner next go to t u kind past ip il ir gt gs gc br (round q) rest p s c left right st h hs hc hd = let k = kind ∙ ap front (ka (start .token) _ h) in clash (cc)
+    element-brace start b inner next go to t u kind past ip il ir gt gs gc br (brace q) rest p s c left right st h hs hc hd =
         let small : c < 256 = omega arith in
         let below : start .counter < 256 = omega (arith, st .counter) in
-        let d = seq q (brace-close ∷ rest) p s (c + 1) (with-counter c left) (with-counter c right)
-              (record { few = st .few; semaphore = gs ∙ past .semaphore ∙ st .semaphore; counter = gc ∙ ap later (past .counter ∙ st .counter) ∙ later-is c small; number = ip ∙ st .number;
-                left-door = il below ∙ (λ i. with-counter (st .counter i) (st .left-door i)); right-door = ir below ∙ (λ i. with-counter (st .counter i) (st .right-door i)) })
-              by-brace (ap (λ i. ahead S i) gt ∙ past-row S start next brace-open (spell-sequence q (brace-close ∷ rest)) (past .moved) h) hs (omega arith) (omega arith) in
-        record { row = past-row S here to brace-close rest (r .moved) (d .row); semaphore = r .semaphore ∙ d .semaphore; counter = r .counter ∙ d .counter ∙ omega arith; added = d .added }
-
-    -- a bracket where none may open any more
-    pub element-deep : (start : Place) (b : Between) (k : Kind) (to : Place) (t u : Table Occurrence) → depth ≡ 0 → k ≡ front (kinds-from T (start .token)) → (k ≡ Name → ⊥) → Element-told S depth start b to t u
-    element-deep start b k to t u none kind nn (name m) rest p s c left right st h hs hc hd = absurd (nn (kind ∙ ap front (ka (start .token) _ h)))
-    element-deep start b k to t u none kind nn (round q) rest p s c left right st h hs hc hd = absurd (omega arith)
-    element-deep start b k to t u none kind nn (brace q) rest p s c left right st h hs hc hd = absurd (omega arith)
+        let d = br q brace-close rest p s (c + 1) (with-counter c left) (with-counter c right)
+        (record {
+          few = st .few;
+          semaphore = gs ∙ past .semaphore ∙ st .semaphore;
+          counter = gc ∙ ap later (past .counter ∙ st .counter) ∙ later-is c small;
+          number = ip ∙ st .number;
+          left-door = il below ∙ (λ i. with-counter (st .counter i) (st .left-door i));
+          right-door = ir below ∙ (λ i. with-counter (st .counter i) (st .right-door i));
+        })
+        by-brace (ap (λ i. ahead S i) gt ∙ past-row S start next brace-open (spell-sequence q (brace-close ∷ rest)) (past .moved) h) hs (omega arith) (omega arith) in
+        record { row = d .row; semaphore = d .semaphore; counter = d .counter ∙ omega arith; added = d .added }
 
     pub element-none : (start : Place) (b : Between) (k : Kind) (to : Place) (t u : Table Occurrence) → k ≡ front (kinds-from T (start .token)) →
         (k ≡ Name → ⊥) → (k ≡ RoundOpen → ⊥) → (k ≡ BraceOpen → ⊥) → Element-told S depth start b to t u
     element-none start b k to t u kind nn nr nb (name m) rest p s c left right st h hs hc hd = absurd (nn (kind ∙ ap front (ka (start .token) _ h)))
     element-none start b k to t u kind nn nr nb (round q) rest p s c left right st h hs hc hd = absurd (nr (kind ∙ ap front (ka (start .token) _ h)))
     element-none start b k to t u kind nn nr nb (brace q) rest p s c left right st h hs hc hd = absurd (nb (kind ∙ ap front (ka (start .token) _ h)))
+
+    -- ---- a bracket
+    pub bracket-deep : (start : Place) (b : Between) (to : Place) (t u : Table Occurrence) → depth ≡ 0 → Bracket-told S depth start b to t u
+    bracket-deep start b to t u none q k rest p s c left right st cl h hs hc hd = absurd (omega arith)
+
+    pub bracket-closed : (start : Place) (b : Between) (here to : Place) (t u : Table Occurrence) → Sequence-told S (depth - 1) start b here t u → Past (contents T) here to → Bracket-told S depth start b to t u
+    bracket-closed start b here to t u seq past q k rest p s c left right st cl h hs hc hd =
+        let d = seq q (k ∷ rest) p s c left right st cl h hs hc (omega arith) in
+        record { row = past-row S here to k rest (past .moved) (d .row); semaphore = past .semaphore ∙ d .semaphore; counter = past .counter ∙ d .counter; added = d .added }
 
   -- ---- the paths
   abbrev Text-told : Place → ℕ → Translated → Table Occurrence → Table Occurrence → Text → ℕ → ℕ → ℕ → Type 0
@@ -198,9 +215,15 @@ module _ (text : List ℕ) (T : Table Token) (names : Table TheName) where
         let small : s < 256 = omega arith in
         let below : start .semaphore < 256 = omega arith in
         seq q (end ∷ rest) k (s + 1) c (plain s) (plain s)
-          (record { few = few; semaphore = gs ∙ ap later (past .semaphore ∙ es) ∙ later-is s small; counter = gc ∙ past .counter ∙ ec;
-            number = bp (omega arith) ∙ ek; left-door = bl below ∙ ap plain es; right-door = br below ∙ ap plain es })
-          by-end (ap (λ i. ahead S i) gt ∙ past-row S start next path (spell-sequence q (end ∷ rest)) (past .moved) h) hs hc hd
+        (record {
+          few = few;
+          semaphore = gs ∙ ap later (past .semaphore ∙ es) ∙ later-is s small;
+          counter = gc ∙ past .counter ∙ ec;
+          number = bp (omega arith) ∙ ek;
+          left-door = bl below ∙ ap plain es;
+          right-door = br below ∙ ap plain es;
+        })
+        by-end (ap (λ i. ahead S i) gt ∙ past-row S start next path (spell-sequence q (end ∷ rest)) (past .moved) h) hs hc hd
 
     text-more : (x : Text) (k s c : ℕ) → Text-told start n r t v x k s c
     text-more (one q) k s c few ek es ec h hk hs hc hd =
@@ -210,15 +233,25 @@ module _ (text : List ℕ) (T : Table Token) (names : Table TheName) where
         let n-is = nn ∙ ap later ek ∙ later-is k (omega arith) in
         let s-is = behind .semaphore ∙ d .semaphore in
         let c-is = behind .counter ∙ d .counter in
-        record { names = o .names; paths = o .paths ∙ n-is ∙ omega arith; semaphores = o .semaphores ∙ s-is ∙ omega arith; counters = o .counters ∙ c-is ∙ omega arith;
-          added = subst (λ os. Added t os v) (append-nil (path-doors q k s c)) (added-then t u v _ _ kept (d .added) (o .added)) }
+        record {
+          names = o .names;
+          paths = o .paths ∙ n-is ∙ omega arith;
+          semaphores = o .semaphores ∙ s-is ∙ omega arith;
+          counters = o .counters ∙ c-is ∙ omega arith;
+          added = subst (λ os. Added t os v) (append-nil (path-doors q k s c)) (added-then t u v _ _ kept (d .added) (o .added));
+        }
     text-more (more q x) k s c few ek es ec h hk hs hc hd =
         let a = taken-sequence q (end ∷ spell-text x) in
         let d = one-path q (spell-text x) k s c few ek es ec h (omega arith) (omega arith) (omega arith) (omega arith) in
         let o = others .text x (k + 1) (s + 1 + semaphores-in-sequence q) (c + counters-in-sequence q) few (nn ∙ ap later ek ∙ later-is k (omega arith))
-              (behind .semaphore ∙ d .semaphore) (behind .counter ∙ d .counter) (past-row S here on end (spell-text x) (behind .moved) (d .row)) (omega arith) (omega arith) (omega arith) (omega arith) in
-        record { names = o .names; paths = o .paths ∙ omega arith; semaphores = o .semaphores ∙ omega arith; counters = o .counters ∙ omega arith;
-          added = added-then t u v _ _ kept (d .added) (o .added) }
+        (behind .semaphore ∙ d .semaphore) (behind .counter ∙ d .counter) (past-row S here on end (spell-text x) (behind .moved) (d .row)) (omega arith) (omega arith) (omega arith) (omega arith) in
+        record {
+          names = o .names;
+          paths = o .paths ∙ omega arith;
+          semaphores = o .semaphores ∙ omega arith;
+          counters = o .counters ∙ omega arith;
+          added = added-then t u v _ _ kept (d .added) (o .added);
+        }
 
     pub paths-more : Paths-told S start n r t v
     paths-more = record { none = λ h. let k = kind ∙ ap front (ka (start .token) _ h) in clash (cc); text = text-more }

@@ -20,7 +20,6 @@ use Rattle.tokens.specs.declared.Kind.the-variants.{Semicolon, Comma, RoundOpen
 use Rattle.tokens.specs.declared.Token.{Token}
 use Rattle.translation.specs.Rows.{kinds, kinds-from, kind-of, front, later}
 use Rattle.paths.specs.Grammar.{Terminal, semicolon, comma, round-close, brace-close}
-
 use Rattle.translation.specs.Trees.{spell-sequence, spell-selection, spell-element, Closed, by-round, by-brace, by-end, scan}
 
 pub clash : {A : Type 0} → _≡_ {A = ℕ} 0 1 → A

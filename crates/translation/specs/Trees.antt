@@ -1,7 +1,7 @@
 -- The terminals that a tree spells, and what the readers of the translation leave behind a tree.
 use mathlib.Core.Path.{_≡_}
 use mathlib.Core.List.{List, [], _∷_, map}
-use Prim.Native.Nat.{ℕ, zero, suc, _+_, _≤_}
+use Prim.Native.Nat.{ℕ, zero, suc, _+_, _≤_, _<_}
 use lib.ListN.{length}
 use Rattle.std.specs.declared.option.Option.{Option}
 use Rattle.std.specs.declared.option.Option.the-variants.{Some, None}
@@ -99,6 +99,13 @@ Element-told src depth start b to before after =
     (e : Element) (rest : List Terminal) (p s c : ℕ) (left right : TheDoor) → Stands src start b p s c left right → ahead src (start .token) ≡ spell-element e rest →
     s + semaphores-in-element e ≤ 256 → c + counters-in-element e ≤ 256 → depth-of-element e ≤ depth →
     Done src rest to (s + semaphores-in-element e) (c + counters-in-element e) before (element-doors e p left right s c) after
+
+-- behind a sequence and the terminal k that closes it
+abbrev pub Bracket-told : Source → ℕ → Place → Between → Place → Table Occurrence → Table Occurrence → Type 0
+Bracket-told src depth start b to before after =
+    (q : Sequence) (k : Terminal) (rest : List Terminal) (p s c : ℕ) (left right : TheDoor) → Stands src start b p s c left right → Closed (k ∷ rest) → ahead src (start .token) ≡ spell-sequence q (k ∷ rest) →
+    s + semaphores-in-sequence q ≤ 256 → c + counters-in-sequence q ≤ 256 → depth-of-sequence q < depth →
+    Done src rest to (s + semaphores-in-sequence q) (c + counters-in-sequence q) before (sequence-doors q p left right s c) after
 
 -- where the translation begins
 abbrev pub first : Place

@@ -5,7 +5,6 @@ mod steps;
 mod walk;
 
 use reading::Read;
-
 pub use walk::translate;
 
 // A text that was translated: how many different names, paths, semaphores and counters it has.

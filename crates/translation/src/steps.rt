@@ -50,14 +50,20 @@ fn byte(n: u16) -> u8
 fn plain(semaphore: u16) -> Door
     ensures door { λ r. ⌜ (semaphore < 256 → door-of r ≡ plainDoor semaphore) ⌝ }
 {
-    Door { semaphore: byte(semaphore), counter: None }
+    Door {
+        semaphore: byte(semaphore),
+        counter: None,
+    }
 }
 
 // The same semaphore, now with a counter.
 fn counted(door: Door, counter: u8) -> Door
     ensures door { λ r. ⌜ door-of r ≡ with-counter counter (door-of door) ⌝ }
 {
-    Door { semaphore: door.semaphore, counter: Some(counter) }
+    Door {
+        semaphore: door.semaphore,
+        counter: Some(counter),
+    }
 }
 
 impl Place {
@@ -67,7 +73,11 @@ impl Place {
         ensures semaphore { λ r. ⌜ r .semaphore ≡ later (self .semaphore) ⌝ }
         ensures counter { λ r. ⌜ r .counter ≡ self .counter ⌝ }
     {
-        Place { token: self.token, semaphore: after(self.semaphore), counter: self.counter }
+        Place {
+            token: self.token,
+            semaphore: after(self.semaphore),
+            counter: self.counter,
+        }
     }
 
     // A counter is taken here.
@@ -76,7 +86,11 @@ impl Place {
         ensures semaphore { λ r. ⌜ r .semaphore ≡ self .semaphore ⌝ }
         ensures counter { λ r. ⌜ r .counter ≡ later (self .counter) ⌝ }
     {
-        Place { token: self.token, semaphore: self.semaphore, counter: after(self.counter) }
+        Place {
+            token: self.token,
+            semaphore: self.semaphore,
+            counter: after(self.counter),
+        }
     }
 }
 
@@ -87,7 +101,11 @@ impl Between {
         ensures left { λ r. ⌜ (semaphore < 256 → door-of (r .left) ≡ plainDoor semaphore) ⌝ }
         ensures right { λ r. ⌜ (semaphore < 256 → door-of (r .right) ≡ plainDoor semaphore) ⌝ }
     {
-        Between { path: byte(path), left: plain(semaphore), right: plain(semaphore) }
+        Between {
+            path: byte(path),
+            left: plain(semaphore),
+            right: plain(semaphore),
+        }
     }
 
     // The part before a `;` has the semaphore of the `;` as its right door.
@@ -96,7 +114,11 @@ impl Between {
         ensures left { λ r. ⌜ r .left ≡ self .left ⌝ }
         ensures right { λ r. ⌜ (semaphore < 256 → door-of (r .right) ≡ plainDoor semaphore) ⌝ }
     {
-        Between { path: self.path, left: self.left, right: plain(semaphore) }
+        Between {
+            path: self.path,
+            left: self.left,
+            right: plain(semaphore),
+        }
     }
 
     // The part behind a `;` has the semaphore of the `;` as its left door.
@@ -105,7 +127,11 @@ impl Between {
         ensures left { λ r. ⌜ (semaphore < 256 → door-of (r .left) ≡ plainDoor semaphore) ⌝ }
         ensures right { λ r. ⌜ r .right ≡ self .right ⌝ }
     {
-        Between { path: self.path, left: plain(semaphore), right: self.right }
+        Between {
+            path: self.path,
+            left: plain(semaphore),
+            right: self.right,
+        }
     }
 
     // The part inside braces has their counter at both doors.
@@ -115,17 +141,26 @@ impl Between {
         ensures right { λ r. ⌜ (counter < 256 → door-of (r .right) ≡ with-counter counter (door-of (self .right))) ⌝ }
     {
         let counter = byte(counter);
-        Between { path: self.path, left: counted(self.left, counter), right: counted(self.right, counter) }
+        Between {
+            path: self.path,
+            left: counted(self.left, counter),
+            right: counted(self.right, counter),
+        }
     }
+}
 
-    // A name keeps the two doors that it is passed.
-    pub fn occurrence(self, operation: u8) -> Occurrence
-        ensures path { λ r. ⌜ r .path ≡ self .path ⌝ }
-        ensures operation { λ r. ⌜ r .operation ≡ operation ⌝ }
-        ensures left { λ r. ⌜ r .left ≡ self .left ⌝ }
-        ensures right { λ r. ⌜ r .right ≡ self .right ⌝ }
-    {
-        Occurrence { path: self.path, operation, left: self.left, right: self.right }
+// A name keeps the two doors that it is passed.
+pub fn occurrence(between: Between, operation: u8) -> Occurrence
+    ensures path { λ r. ⌜ r .path ≡ between .path ⌝ }
+    ensures operation { λ r. ⌜ r .operation ≡ operation ⌝ }
+    ensures left { λ r. ⌜ r .left ≡ between .left ⌝ }
+    ensures right { λ r. ⌜ r .right ≡ between .right ⌝ }
+{
+    Occurrence {
+        path: between.path,
+        operation,
+        left: between.left,
+        right: between.right,
     }
 }
 
@@ -158,7 +193,11 @@ pub fn past(tokens: &Table<Token>, at: Place) -> Place
     ensures past { λ r. ⌜ PastIt (contents (now (tokens .entry))) at r ⌝ }
 {
     if at.token < tokens.count() {
-        Place { token: at.token + 1, semaphore: at.semaphore, counter: at.counter }
+        Place {
+            token: at.token + 1,
+            semaphore: at.semaphore,
+            counter: at.counter,
+        }
     } else {
         at
     }

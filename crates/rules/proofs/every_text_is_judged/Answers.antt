@@ -1,5 +1,5 @@
-use Rattle.rules.proofs.Scan.{told-or-accepted}
+use Rattle.rules.proofs.Within.{told-or-derived}
 use Rattle.rules.proofs.every_text_is_judged.Needs as need
 
 pub returns : need.returns
-returns c = record { theorem = told-or-accepted }
+returns c = record { theorem = told-or-derived }

@@ -15,7 +15,7 @@ pub loop-i-again : need.loop-i-again
 loop-i-again c =
     let here = c .in-Some .ensures tt .shown in
     same-bytes (one-more-line (c .args .text .now) (contents (c .args .names .now)) (contents (c .args .occurrences .now)) (c .loop-i .i) (c .in-Some .occurrence) (here .0) (here .1))
-      (written-more (c .loop-i .inv) (c .put-line-at .ensures .written))
+    (written-more (c .loop-i .inv) (c .put-line-at .ensures .written))
 
 pub returns : need.returns
 returns c =

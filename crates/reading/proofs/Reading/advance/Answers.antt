@@ -19,7 +19,7 @@ returns-in-Err c =
     let k = c .in-Err .ensures tt .counted in
     record {
       advanced = subst (λ (f : ReadFault). Failed d (together (c .count .last .self) (d .tokens) (c .count .last .names)) f) (sym (c .passed .ensures .told))
-        (passes d (c .args .token) (c .pre .0) (c .pre .1) (c .in-Err .limit) (c .count .last .self) (c .count .last .names) (k .0) (k .1) (k .2));
+          (passes d (c .args .token) (c .pre .0) (c .pre .1) (c .in-Err .limit) (c .count .last .self) (c .count .last .names) (k .0) (k .1) (k .2));
     }
 
 pub returns-in-Break-look : need.returns-in-Break-look
@@ -32,7 +32,7 @@ returns-in-Break-look c =
     let p = err-from-errBy (c .from-residual .result) (c .from-residual .ensures .1) in
     record {
       advanced = rw (p .1, p .2)
-        (took-last d (c .args .token) (c .pre .0) (c .pre .1) (c .count .last .self) (c .count .last .names) (k .0) (k .1) (k .2) (k .3) (k .4) (c .add .last .self) a (c .look .last .self)
+          (took-last d (c .args .token) (c .pre .0) (c .pre .1) (c .count .last .self) (c .count .last .names) (k .0) (k .1) (k .2) (k .3) (k .4) (c .add .last .self) a (c .look .last .self)
           (c .look .ensures .kept) (c .in-Break-look .field-0 .0) (c .in-Break-look .ensures tt .looked));
     }
 
@@ -45,5 +45,5 @@ returns c =
     let a = added (d .tokens) (c .add .last .self) (c .args .token) _ (omega arith) (c .add .ensures .full) (c .add .ensures .records) (c .add .ensures .places) in
     record {
       advanced = took d (c .args .token) (c .pre .0) (c .pre .1) (c .count .last .self) (c .count .last .names) (k .0) (k .1) (k .2) (k .3) (k .4) (c .add .last .self) a (c .look .last .self)
-        (c .look .ensures .kept) (c .in-Continue-look .ensures tt .looked);
+          (c .look .ensures .kept) (c .in-Continue-look .ensures tt .looked);
     }

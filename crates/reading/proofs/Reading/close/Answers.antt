@@ -1,8 +1,5 @@
-use mathlib.Core.Path.{sym, subst}
 use borrow.Author.Needs.{needs}
-use Rattle.reading.specs.declared.GrammarFault.{GrammarFault}
-use Rattle.reading.specs.declared.ReadFault.the-variants.{Grammar}
-use Rattle.reading.specs.State.{together, Failed, Stuck-with}
+use Rattle.reading.specs.State.{together, Stuck-with}
 use Rattle.reading.proofs.Went.{refuse}
 use Rattle.reading.proofs.Reading.close.Needs as need
 
@@ -10,4 +7,4 @@ pub returns : need.returns
 returns c =
     let d = together (c .args .self .now) (c .args .tokens .now) (c .args .names .now) in
     let s : Stuck-with d (c .args .self .now .ahead) = search needs in
-    record { bracket = subst (λ (g : GrammarFault). Failed d d (Grammar g)) (sym (c .refusal .ensures .refused)) (refuse d (c .pre .0) s) }
+    record { bracket = refuse d (c .refusal .result) (c .refusal .ensures .refused) (c .pre .0) s }

@@ -6,6 +6,6 @@ pub returns : need.returns
 returns c =
     record {
       counted = name-counted (c .args .self .now) (c .args .names .now) (c .note .last .names) (c .args .token) (c .part .result .now) (c .number-n .result) (c .marked .result)
-        (c .pre .0) (c .part .ensures .part) (c .number-n .ensures .number) (c .marked .ensures .marked) (c .in-rest .ensures tt .told)
-        (c .note .ensures .records) (c .note .ensures .rest) _ refl refl refl refl refl refl refl refl;
+          (c .pre .0) (c .part .ensures .part) (c .number-n .ensures .number) (c .marked .ensures .marked) (c .in-rest .ensures tt .told)
+          (c .note .ensures .records) (c .note .ensures .rest) _ refl refl refl refl refl refl refl refl;
     }

@@ -18,10 +18,10 @@ loop-token-again c =
     let inside : i < length (contents T) = omega arith in
     let on = scan-on T i d n (c .match-kind-at .depth) (c .match-kind-at .semaphore) in
     elim (c .match-kind-at .came) [
-      in-RoundOpen w ↦ (omega (arith, w .depth-is), on _ _ k _ inside (c .kind-at .ensures .kind) (inv .1) (w .depth-is) (w .semaphore-is) (scan-open k d n (w .in-RoundOpen .is)))
-    | in-RoundClose·else-depth-eq0 w ↦ (omega (arith, w .depth-is), on _ _ k _ inside (c .kind-at .ensures .kind) (inv .1) (w .depth-is) (w .semaphore-is) (scan-close k d n (w .in-RoundClose .is) (w .if-depth-eq0 .left)))
-    | in-Semicolon·else-depth-eq0-2 w ↦ (omega (arith, w .depth-is), on _ _ k _ inside (c .kind-at .ensures .kind) (inv .1) (w .depth-is) (w .semaphore-is ∙ w .after-semaphore .ensures .next) (scan-semicolon k d n (w .in-Semicolon .is) (w .if-depth-eq0-2 .left)))
-    | in-Comma w ↦ (omega (arith, w .depth-is), on _ _ k _ inside (c .kind-at .ensures .kind) (inv .1) (w .depth-is) (w .semaphore-is) (scan-other k d n (w .in-Comma .is)))
+      | in-RoundOpen w ↦ (omega (arith, w .depth-is), on _ _ k _ inside (c .kind-at .ensures .kind) (inv .1) (w .depth-is) (w .semaphore-is) (scan-open k d n (w .in-RoundOpen .is)))
+      | in-RoundClose·else-depth-eq0 w ↦ (omega (arith, w .depth-is), on _ _ k _ inside (c .kind-at .ensures .kind) (inv .1) (w .depth-is) (w .semaphore-is) (scan-close k d n (w .in-RoundClose .is) (w .if-depth-eq0 .left)))
+      | in-Semicolon·else-depth-eq0-2 w ↦ (omega (arith, w .depth-is), on _ _ k _ inside (c .kind-at .ensures .kind) (inv .1) (w .depth-is) (w .semaphore-is ∙ w .after-semaphore .ensures .next) (scan-semicolon k d n (w .in-Semicolon .is) (w .if-depth-eq0-2 .left)))
+      | in-Comma w ↦ (omega (arith, w .depth-is), on _ _ k _ inside (c .kind-at .ensures .kind) (inv .1) (w .depth-is) (w .semaphore-is) (scan-other k d n (w .in-Comma .is)))
     ]
 
 pub returns : need.returns

@@ -6,16 +6,19 @@ use Rattle.doors.specs.declared.Occurrence.{Occurrence}
 use Rattle.translation.specs.declared.steps.Place.{Place}
 use Rattle.translation.specs.Rows.{source, Extends}
 use Rattle.translation.specs.Trees.{Selection-told, Sequence-told}
-use Rattle.translation.proofs.walk.+element+selection+sequence.Given as given
+use Rattle.translation.proofs.walk.+bracket+element+selection+sequence.Given as given
+
+abbrev pub μ-bracket : given.MeasureT-bracket
+μ-bracket l = 4 * l .depth
 
 abbrev pub μ-element : given.MeasureT-element
-μ-element l = 3 * l .depth
+μ-element l = 4 * l .depth + 1
 
 abbrev pub μ-selection : given.MeasureT-selection
-μ-selection l = 3 * l .depth + 1
+μ-selection l = 4 * l .depth + 2
 
 abbrev pub μ-sequence : given.MeasureT-sequence
-μ-sequence l = 3 * l .depth + 2
+μ-sequence l = 4 * l .depth + 3
 
 -- what is left to translate completes the whole
 abbrev pub Inv-selection-loop-here : given.InvT-selection-loop-here

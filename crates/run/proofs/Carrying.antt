@@ -72,7 +72,7 @@ in-exactly t places rule rs (begin a k (Err f)) s = λ x. (λ i. absurd i, λ j.
 in-exactly t places rule rs (end a p ls r) s = tt
 in-exactly t places rule rs (withdraw u r) s = tt
 
-lawful : (t : Text) (places : ℕ) (rule : Rule) (w : View) (rs : List Record) (r : Record) → Says t places rule rs r × Reached t rule w (r ∷ rs) → Lawful t places rule rs r
+pub lawful : (t : Text) (places : ℕ) (rule : Rule) (w : View) (rs : List Record) (r : Record) → Says t places rule rs r × Reached t rule w (r ∷ rs) → Lawful t places rule rs r
 lawful t places rule w rs r (says, (m, calm)) = record { says = says; lets-in = in-exactly t places rule rs r says; fits = m .fits; settled = calm }
 
 -- ---- a list of calls

@@ -229,7 +229,7 @@ one-withdraw rs u d (Err f) (Err g) s s′ = ap Err (not-waiting rs u f s .1 ∙
 
 -- ---- one list of records
 
--- two calls of different kinds are not the same
+-- the same call, lent a list of the same length, gives the same record
 module _ (t : Text) (places : ℕ) (rule : Rule) (one : One rule) (rs : List Record) (d : Distinct (waiting rs)) (n : ℕ) where
   one-record : (r q : Record) → call-of r ≡ call-of q → Lent-to n r → Lent-to n q → Says t places rule rs r → Says t places rule rs q → r ≡ q
   one-record (begin a k r) (begin b j q) e l h s s′ =

@@ -1,0 +1,4 @@
+pub mod Asked
+pub mod Fits
+pub mod Pages
+pub mod Told

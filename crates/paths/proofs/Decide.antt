@@ -66,7 +66,7 @@ may? os σ past (⊕ x) = all-open? x os σ
 may? os σ past (⊖ x) = ltb (ended x past) (begun x past)
 
 -- does h, coming behind past, fit the path whose names are ns?
-abbrev judge : List Occurrence → List ℕ → Standing → History → History → Bool
+abbrev pub judge : List Occurrence → List ℕ → Standing → History → History → Bool
 judge os ns σ past [] = true
 judge os ns σ past (e ∷ h) =
     let r = judge os ns (next os e σ) (past ++ (e ∷ [])) h in cond (among (operation e) ns) (cond (may? os σ past e) r false) r
@@ -89,7 +89,7 @@ module _ (p : Sequence) (ok : Proper p) where
   may-left past f (⊕ x) m t = all-left x ps (now past) (doors-are-right p ok 0 0 0 past f x (among-mem x ns m) .opens .1 t)
   may-left past f (⊖ x) m t = lt→ltb (ended x past) (begun x past) (doors-are-right p ok 0 0 0 past f x (among-mem x ns m) .ends .1 t)
 
-  decided : (h past : History) → Fits p past → T (judge ps ns (now past) past h) ↔ Fits p (past ++ h)
+  pub decided : (h past : History) → Fits p past → T (judge ps ns (now past) past h) ↔ Fits p (past ++ h)
   decided [] past f = ((λ t. subst (Fits p) (sym (append-nil past)) f), (λ t. tt))
   decided (e ∷ h) past f =
       by-bool (among (operation e) ns) (λ z. T (cond z (cond (may? ps (now past) past e) r false) r) ↔ Fits p (past ++ (e ∷ h)))

@@ -45,15 +45,31 @@ module _ {R : Type 0} (places : ℕ) (rule : Rule) (view : Run R → View) (text
       Carries places rule (view run) (view run′) (end a (length list) (take m list′) (Ok m)) → m ≤ length list → drop m list′ ≡ drop m list →
       Asked places rule view text names line run run′ list list′ (Ok (Ended a m))
   at-end run′ list′ word a m long l n s w d =
-      record { ruling = called (end a 256 (take m list′) (Ok m)); ruled = λ _. lawful l (ends n); answered = refl
-             ; carried = subst (λ p. Carries places rule (view run) (view run′) (end a p (take m list′) (Ok m))) long s; listed = refl; within = omega arith; rest = d; keeps = tt }
+      record {
+        ruling = called (end a 256 (take m list′) (Ok m));
+        ruled = λ _. lawful l (ends n);
+        answered = refl;
+        carried = subst (λ p. Carries places rule (view run) (view run′) (end a p (take m list′) (Ok m))) long s;
+        listed = refl;
+        within = omega arith;
+        rest = d;
+        keeps = tt;
+      }
 
   pub at-end-refused : (run′ : Run R) (list′ : List LetIn) (r : Result Answer LogFault) (word : List ℕ) (a : ℕ) (f : RunFault) → r ≡ Err (InRun f) → length list ≡ 256 → Lawful line (an-end word) → Names text names word a →
       Carries places rule (view run) (view run′) (end a (length list) [] (Err f)) → list′ ≡ list → run′ ≡ run →
       Asked places rule view text names line run run′ list list′ r
   at-end-refused run′ list′ r word a f e long l n s d k = subst (λ x. Asked places rule view text names line run run′ list list′ x) (sym e)
-      record { ruling = called (end a 256 [] (Err f)); ruled = λ _. lawful l (ends n); answered = refl
-             ; carried = subst (λ p. Carries places rule (view run) (view run′) (end a p [] (Err f))) long s; listed = refl; within = omega arith; rest = d; keeps = k }
+      record {
+        ruling = called (end a 256 [] (Err f));
+        ruled = λ _. lawful l (ends n);
+        answered = refl;
+        carried = subst (λ p. Carries places rule (view run) (view run′) (end a p [] (Err f))) long s;
+        listed = refl;
+        within = omega arith;
+        rest = d;
+        keeps = k;
+      }
 
   pub at-withdraw : (run′ : Run R) (u a : ℕ) → Lawful line (a-withdrawal u) →
       Carries places rule (view run) (view run′) (withdraw u (Ok a)) → Asked places rule view text names line run run′ list list (Ok (Withdrawn a u))

@@ -1,15 +1,12 @@
 -- What is printed for one line fits on a page.
-use Prim.Native.Nat.{ℕ, _+_, _*_, _^_, _≤_, _<_}
-use mathlib.Core.List.{List, [], _∷_, _++_}
+use Prim.Native.Nat.{ℕ, _+_, _≤_}
+use mathlib.Core.List.{List}
 use native.Mathlib.Omega.{arith}
-use lib.Chars.{codes}
 use lib.ListN.{length, length-append, length-take}
 use Rattle.std.specs.Written.{decimal}
-use Rattle.std.specs.shelf.Lists.{joined}
-use Rattle.std.specs.declared.option.Option.{Option}
 use Rattle.std.specs.declared.option.Option.the-variants.{Some, None}
 use Rattle.tokens.specs.declared.Name.{Name}
-use Rattle.print.specs.Lines.{name-at, name-bytes}
+use Rattle.print.specs.Lines.{name-bytes}
 use Rattle.run.specs.declared.answer.Totals.{Totals}
 use Rattle.log.specs.Print.{ticket-line, out-line, refused-line, total-line}
 use Rattle.log.specs.Answers.{Read-names}

@@ -1,9 +1,8 @@
 -- What becomes of a log line.
 use mathlib.Core.Path.{_≡_}
-use mathlib.Core.List.{List, [], _∷_, _++_}
+use mathlib.Core.List.{List, _∷_}
 use Prim.Native.Nat.{ℕ, _<_}
 use lib.ListN.{length}
-use Rattle.std.specs.declared.result.Result.the-variants.{Ok, Err}
 use Rattle.tokens.specs.declared.Name.{Name}
 use Rattle.tokens.specs.Tokens.{number-of}
 use Rattle.lines.specs.Lines.{Meaning, begin as a-begin, end as an-end, withdraw as a-withdrawal, Lawful, Faulty}

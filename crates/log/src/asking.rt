@@ -27,7 +27,13 @@ fn operation(text: &[u8], names: &Table<Name>, word: &[u8]) -> Result<u8, LogFau
 }
 
 // Makes the call that a line asks for.
-pub(crate) fn ask<R: Room>(run: &mut Run<R>, text: &[u8], names: &Table<Name>, line: &[u8], list: &mut [LetIn; 256]) -> Result<Answer, LogFault>
+pub(crate) fn ask<R: Room>(
+    run: &mut Run<R>,
+    text: &[u8],
+    names: &Table<Name>,
+    line: &[u8],
+    list: &mut [LetIn; 256],
+) -> Result<Answer, LogFault>
     ensures asked { λ r. ⌜ Asked places (record { start = start; after = after; chooses = chooses }) (view entries memory) (now (text .entry)) (contents (now (names .entry))) (now (line .entry)) (now (run .entry)) (now (run .exit)) (now (list .entry)) (now (list .exit)) r ⌝ }
 {
     match read_line(line)? {

@@ -1,5 +1,5 @@
 // The lines of a log, ruled by a run, and what is printed for them.
-pub mod answer;
+mod answer;
 mod asking;
 pub mod fault;
 mod pieces;

@@ -10,9 +10,11 @@ ghost use Rattle.print.specs.Lines.{name-bytes};
 ghost use Rattle.log.specs.Answers.{done-count, let-in-count, done-lines, answer-lines, Read-names};
 use crate::answer::Answer;
 use crate::fault::LogFault;
+use crate::pieces::put_gone;
+use crate::pieces::put_in;
 use crate::pieces::put_out;
 use crate::pieces::put_refused;
-use crate::pieces::put_ticket;
+use crate::pieces::put_waits;
 use run::answer::Begun;
 use run::answer::LetIn;
 use table::Table;
@@ -35,8 +37,8 @@ fn put_begun(part: &mut [u8], number: usize, name: &[u8], begun: Begun) -> usize
     ensures short { λ _. ⌜ length (begun-line number (now (name .entry)) begun) ≤ 49 + length (now (name .entry)) ⌝ }
 {
     match begun {
-        Begun::In(ticket) => put_ticket(part, number, name, b"in", ticket),
-        Begun::Waits(ticket) => put_ticket(part, number, name, b"waits", ticket),
+        Begun::In(ticket) => put_in(part, number, name, ticket),
+        Begun::Waits(ticket) => put_waits(part, number, name, ticket),
     }
 }
 
@@ -45,11 +47,17 @@ fn put_let_in(part: &mut [u8], number: usize, text: &[u8], names: &Table<Name>, 
     ensures written { λ r. ⌜ Written (let-in-line (name-bytes (now (text .entry)) (contents (now (names .entry)))) number one) (now (part .entry)) (now (part .exit)) r ⌝ }
     ensures short { λ _. ⌜ (Read-names (contents (now (names .entry))) → length (let-in-line (name-bytes (now (text .entry)) (contents (now (names .entry)))) number one) ≤ 62) ⌝ }
 {
-    put_ticket(part, number, name(text, names, one.operation), b"in", one.ticket)
+    put_in(part, number, name(text, names, one.operation), one.ticket)
 }
 
 // Prints those that an end let in, behind each other.
-fn put_all(part: &mut [u8], number: usize, text: &[u8], names: &Table<Name>, list: &[LetIn]) -> usize
+fn put_all(
+    part: &mut [u8],
+    number: usize,
+    text: &[u8],
+    names: &Table<Name>,
+    list: &[LetIn],
+) -> usize
     ensures written { λ r. ⌜ Written (joined (let-in-line (name-bytes (now (text .entry)) (contents (now (names .entry)))) number) (now (list .entry))) (now (part .entry)) (now (part .exit)) r ⌝ }
     ensures short { λ _. ⌜ (Read-names (contents (now (names .entry))) → length (joined (let-in-line (name-bytes (now (text .entry)) (contents (now (names .entry)))) number) (now (list .entry))) ≤ 62 * length (now (list .entry))) ⌝ }
 {
@@ -61,7 +69,14 @@ fn put_all(part: &mut [u8], number: usize, text: &[u8], names: &Table<Name>, lis
 }
 
 // Prints an end that was not refused, with those that it let in.
-fn put_ended(part: &mut [u8], number: usize, text: &[u8], names: &Table<Name>, operation: u8, list: &[LetIn]) -> usize
+fn put_ended(
+    part: &mut [u8],
+    number: usize,
+    text: &[u8],
+    names: &Table<Name>,
+    operation: u8,
+    list: &[LetIn],
+) -> usize
     ensures written { λ r. ⌜ Written (ended-lines (name-bytes (now (text .entry)) (contents (now (names .entry)))) number operation (now (list .entry))) (now (part .entry)) (now (part .exit)) r ⌝ }
     ensures short { λ _. ⌜ (Read-names (contents (now (names .entry))) → length (ended-lines (name-bytes (now (text .entry)) (contents (now (names .entry)))) number operation (now (list .entry))) ≤ 42 + 62 * length (now (list .entry))) ⌝ }
 {
@@ -78,20 +93,51 @@ fn put_refusal(part: &mut [u8], number: usize, fault: LogFault) -> usize
 }
 
 // Prints an answer that is no refusal; those that it let in stand at the list's front.
-fn put_done(part: &mut [u8], number: usize, text: &[u8], names: &Table<Name>, list: &[LetIn], done: Answer) -> usize
+fn put_done(
+    part: &mut [u8],
+    number: usize,
+    text: &[u8],
+    names: &Table<Name>,
+    list: &[LetIn],
+    done: Answer,
+) -> usize
     requires { ⌜ (done-count done ≤ length (now list)) × (length (now list) ≤ 256) ⌝ }
     ensures written { λ r. ⌜ Written (done-lines (name-bytes (now (text .entry)) (contents (now (names .entry)))) number (now (list .entry)) done) (now (part .entry)) (now (part .exit)) r ⌝ }
     ensures short { λ _. ⌜ (Read-names (contents (now (names .entry))) → length (done-lines (name-bytes (now (text .entry)) (contents (now (names .entry)))) number (now (list .entry)) done) ≤ 16384) ⌝ }
 {
     match done {
-        Answer::Begun(operation, begun) => put_begun(part, number, name(text, names, operation), begun),
-        Answer::Ended(operation, count) => put_ended(part, number, text, names, operation, &list[0..count]),
-        Answer::Withdrawn(operation, ticket) => put_ticket(part, number, name(text, names, operation), b"gone", ticket),
+        Answer::Begun(operation, begun) => put_begun(
+            part,
+            number,
+            name(text, names, operation),
+            begun,
+        ),
+        Answer::Ended(operation, count) => put_ended(
+            part,
+            number,
+            text,
+            names,
+            operation,
+            &list[0..count],
+        ),
+        Answer::Withdrawn(operation, ticket) => put_gone(
+            part,
+            number,
+            name(text, names, operation),
+            ticket,
+        ),
     }
 }
 
 // Prints the answer to a line.
-pub(crate) fn put_answer(part: &mut [u8], number: usize, text: &[u8], names: &Table<Name>, list: &[LetIn], answer: Result<Answer, LogFault>) -> usize
+pub(crate) fn put_answer(
+    part: &mut [u8],
+    number: usize,
+    text: &[u8],
+    names: &Table<Name>,
+    list: &[LetIn],
+    answer: Result<Answer, LogFault>,
+) -> usize
     requires { ⌜ (let-in-count answer ≤ length (now list)) × (length (now list) ≤ 256) ⌝ }
     ensures written { λ r. ⌜ Written (answer-lines (name-bytes (now (text .entry)) (contents (now (names .entry)))) number (now (list .entry)) answer) (now (part .entry)) (now (part .exit)) r ⌝ }
     ensures short { λ _. ⌜ (Read-names (contents (now (names .entry))) → length (answer-lines (name-bytes (now (text .entry)) (contents (now (names .entry)))) number (now (list .entry)) answer) ≤ 16384) ⌝ }

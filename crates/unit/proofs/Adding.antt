@@ -1,7 +1,7 @@
 -- One ruling after the other, from what each line tells.
 use mathlib.Core.Path.{_≡_, refl, sym, ap, subst, _∙_}
 use mathlib.Core.List.{List, [], _∷_, _++_, append-assoc, append-nil}
-use Prim.Native.Nat.{ℕ, suc, _+_}
+use Prim.Native.Nat.{ℕ, _+_}
 use native.Mathlib.Omega.{arith}
 use lib.ListN.{length, take}
 use Rattle.std.specs.Vec.{made}
@@ -19,9 +19,9 @@ use Rattle.run.specs.Memory.{View, Reached}
 use Rattle.run.specs.Records.{Record, Rule}
 use Rattle.run.proofs.Carrying.{lawful}
 use Rattle.input.specs.Input.{Lines, none as no-lines, First-line, more}
-use Rattle.log.specs.Rulings.{Ruling, unlawful, unknown, called, Ruled, with-call, ruling-lines}
+use Rattle.log.specs.Rulings.{Ruling, unlawful, unknown, called, with-call, ruling-lines}
 use Rattle.log.specs.Answers.{Carried, Read-names, Ruling-told}
-use Rattle.unit.specs.Output.{records, log-print, Rules-on, none, one-more}
+use Rattle.unit.specs.Output.{records, none, one-more}
 use Rattle.unit.specs.Steps.{Line-added, Ruled-so-far, Log-added}
 
 -- the front of a page on which bytes were printed
@@ -36,9 +36,6 @@ pub added-line : {R E : Type 0} (places : ℕ) (rule : Rule) (view : Run R → V
 added-line places rule view text names line number run run′ list list′ page page′ n out out′ (Ok u) told e =
     record { ruling = told .ruling; carried = told .carried; ruled = told .ruled; printed = λ read. e ∙ ap (λ bs. out ++ bs) (front (told .printed read)) }
 added-line places rule view text names line number run run′ list list′ page page′ n out out′ (Err f) told e = tt
-
-count-more : (m n : ℕ) → m ≡ n → suc m ≡ n + 1
-count-more m n e = omega arith
 
 -- ---- the rulings so far, with one more
 module _ (places : ℕ) (rule : Rule) (t : Text) (text : List ℕ) (names : List Name) (out : List ℕ) where
@@ -56,7 +53,7 @@ module _ (places : ℕ) (rule : Rule) (t : Text) (text : List ℕ) (names : List
         ruled = one-more refl (s .ruled) (l .ruled read);
         told = more .0;
         reached = more .1;
-        printed = l .printed read ∙ ap (λ bs. bs ++ ruling-lines (name-bytes text names) (length qs + 1) (l .ruling)) (s .printed) ∙ append-assoc out _ _
+        printed = l .printed read ∙ ap (λ bs. bs ++ ruling-lines (name-bytes text names) (length qs + 1) (l .ruling)) (s .printed) ∙ append-assoc out _ _;
       }
 
   -- the log is ruled up to the unread bytes: its first lines, so many, are ruled
@@ -68,19 +65,24 @@ module _ (places : ℕ) (rule : Rule) (t : Text) (text : List ℕ) (names : List
     pub so-far : Ruled-so-far places rule t text names done w out now rulings
 
   pub going-start : (log unread : List ℕ) (v : View) → unread ≡ log → Reached t rule v [] → Going log unread 0 v out
-  going-start log unread v e reached = record { done = []; rest = λ later all. subst (λ bs. Lines bs later) e all; rulings = []; count = refl
-      ; so-far = record { ruled = none; told = tt; reached = reached; printed = sym (append-nil out) } }
+  going-start log unread v e reached = record {
+    done = [];
+    rest = λ later all. subst (λ bs. Lines bs later) e all;
+    rulings = [];
+    count = refl;
+    so-far = record { ruled = none; told = tt; reached = reached; printed = sym (append-nil out) };
+  }
 
-  pub going-more : (log unread line behind : List ℕ) (number : ℕ) (v w : View) (now then : List ℕ) → Read-names names → Going log unread number v now → First-line unread line behind →
-      Line-added places rule text names line (number + 1) v w now then → Going log behind (number + 1) w then
-  going-more log unread line behind number v w now then read go first l =
-      let one = subst (λ k. Line-added places rule text names line (k + 1) v w now then) (sym (go .count)) l in
+  pub going-more : (log unread line behind : List ℕ) (number number′ : ℕ) (v w : View) (now then : List ℕ) → Read-names names → Going log unread number v now → First-line unread line behind → number′ ≡ number + 1 →
+      Line-added places rule text names line number′ v w now then → Going log behind number′ w then
+  going-more log unread line behind number number′ v w now then read go first next l =
+      let one = subst (λ k. Line-added places rule text names line k v w now then) (next ∙ ap (λ k. k + 1) (sym (go .count))) l in
       record {
         done = go .done ++ (line ∷ []);
         rest = λ later all. subst (Lines log) (sym (append-assoc (go .done) (line ∷ []) later)) (go .rest (line ∷ later) (more first all));
         rulings = one .ruling ∷ go .rulings;
-        count = count-more (length (go .rulings)) number (go .count);
-        so-far = ruled-more v w (go .done) line now then (go .rulings) read (go .so-far) one
+        count = omega (arith, go .count);
+        so-far = ruled-more v w (go .done) line now then (go .rulings) read (go .so-far) one;
       }
 
   pub going-all : (log unread : List ℕ) (number : ℕ) (w : View) (now : List ℕ) → Going log unread number w now → unread ≡ [] → Log-added places rule t text names log w out now

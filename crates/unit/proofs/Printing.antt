@@ -1,8 +1,8 @@
 -- What is printed for a text and its log, from what the steps tell.
 use mathlib.Core.Path.{_≡_, refl, sym, ap, subst, _∙_}
 use mathlib.Core.Logic.{inl, inr}
-use mathlib.Core.List.{List, [], _∷_, _++_, append-assoc}
-use Prim.Native.Nat.{ℕ, _+_, _≤_, _<_}
+use mathlib.Core.List.{List, [], _++_, append-assoc}
+use Prim.Native.Nat.{ℕ, _+_, _≤_}
 use native.Mathlib.Omega.{arith}
 use lib.ListN.{length, take, drop, length-append}
 use Rattle.std.specs.Vec.{made}
@@ -35,8 +35,8 @@ use Rattle.run.specs.Records.{Record, Rule}
 use Rattle.input.specs.Input.{Cut}
 use Rattle.log.specs.Print.{total-line}
 use Rattle.log.specs.Answers.{Read-names}
-use Rattle.unit.specs.Output.{records, log-print, Fault-printed, Log-printed, Text-prints, at-fault, accepted, Prints, short}
-use Rattle.unit.specs.Steps.{Ruled-so-far, Log-added, Tree-told, Run-added, Text-added}
+use Rattle.unit.specs.Output.{records, log-print, Fault-printed, Text-prints, at-fault, accepted, Prints, short}
+use Rattle.unit.specs.Steps.{Log-added, Tree-told, Run-added, Text-added}
 use Rattle.unit.proofs.Adding.{front}
 
 -- ---- one print, added to the output
@@ -81,9 +81,18 @@ module _ {E : Type 0} (places : ℕ) (rule : Rule) (text log : List ℕ) (names 
         of-log = rulings .of-log;
         bytes = doors-print text t ++ (log-print (name-bytes text all) (rulings .rulings) ++ total-line totals);
         printed = record {
-          short = told .short; tree = t; derives = told .derives; within = told .within; rulings = rulings .rulings; ruled = s .ruled; told = s .told;
-          totals = totals; totaled = closed t (records (rulings .rulings)) (s .reached); printed = refl };
-        added = last ∙ ap (λ bs. bs ++ total-line totals) (s .printed ∙ ap (λ bs. bs ++ log-print (name-bytes text all) (rulings .rulings)) shown) ∙ rows out (doors-print text t) _ (total-line totals)
+          short = told .short;
+          tree = t;
+          derives = told .derives;
+          within = told .within;
+          rulings = rulings .rulings;
+          ruled = s .ruled;
+          told = s .told;
+          totals = totals;
+          totaled = closed t (records (rulings .rulings)) (s .reached);
+          printed = refl;
+        };
+        added = last ∙ ap (λ bs. bs ++ total-line totals) (s .printed ∙ ap (λ bs. bs ++ log-print (name-bytes text all) (rulings .rulings)) shown) ∙ rows out (doors-print text t) _ (total-line totals);
       }
 
   -- ---- a text

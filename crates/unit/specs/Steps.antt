@@ -1,6 +1,6 @@
 -- What the steps of the unit tell each other.
 use mathlib.Core.Path.{_≡_}
-use mathlib.Core.List.{List, [], _∷_, _++_}
+use mathlib.Core.List.{List, _++_}
 use Prim.Native.Nat.{ℕ, _≤_}
 use lib.ListN.{length}
 use Rattle.table.specs.declared.Table.{Table}
@@ -16,7 +16,6 @@ use Rattle.doors.specs.declared.Occurrence.{Occurrence}
 use Rattle.translation.specs.declared.Translated.{Translated}
 use Rattle.translation.specs.Translation.{Translates}
 use Rattle.print.specs.Lines.{name-bytes}
-use Rattle.run.specs.declared.state.Run.{Run}
 use Rattle.run.specs.Law.{Told}
 use Rattle.run.specs.Memory.{View, Reached}
 use Rattle.run.specs.Records.{Rule}

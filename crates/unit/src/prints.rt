@@ -28,7 +28,11 @@ pub(crate) fn add_front(out: &mut Vec<u8>, page: &[u8], n: usize) -> Result<(), 
 }
 
 // Adds the line of a fault to the output.
-pub(crate) fn add_fault(fault: ReadFault, page: &mut [u8; 16384], out: &mut Vec<u8>) -> Result<(), AllocError>
+pub(crate) fn add_fault(
+    fault: ReadFault,
+    page: &mut [u8; 16384],
+    out: &mut Vec<u8>,
+) -> Result<(), AllocError>
     ensures added { λ r. ⌜ made r (λ _. vec-items (now (out .exit)) ≡ vec-items (now (out .entry)) ++ fault-line fault) ⌝ }
 {
     let Ok(n) = print_fault(page, fault) else {
@@ -38,7 +42,13 @@ pub(crate) fn add_fault(fault: ReadFault, page: &mut [u8; 16384], out: &mut Vec<
 }
 
 // Adds the lines of the doors of a text to the output.
-pub(crate) fn add_doors(text: &[u8], names: &Table<Name>, occurrences: &Table<Occurrence>, page: &mut [u8; 16384], out: &mut Vec<u8>) -> Result<(), AllocError>
+pub(crate) fn add_doors(
+    text: &[u8],
+    names: &Table<Name>,
+    occurrences: &Table<Occurrence>,
+    page: &mut [u8; 16384],
+    out: &mut Vec<u8>,
+) -> Result<(), AllocError>
     ensures added { λ r. ⌜ made r (λ _. (t : Text) → Doors-of (now (text .entry)) (now (names .entry)) (now (occurrences .entry)) t → vec-items (now (out .exit)) ≡ vec-items (now (out .entry)) ++ doors-print (now (text .entry)) t) ⌝ }
 {
     let Ok(n) = print_doors(page, text, names, occurrences) else {
@@ -48,7 +58,11 @@ pub(crate) fn add_doors(text: &[u8], names: &Table<Name>, occurrences: &Table<Oc
 }
 
 // Adds the line of the totals to the output.
-pub(crate) fn add_totals(totals: Totals, page: &mut [u8; 16384], out: &mut Vec<u8>) -> Result<(), AllocError>
+pub(crate) fn add_totals(
+    totals: Totals,
+    page: &mut [u8; 16384],
+    out: &mut Vec<u8>,
+) -> Result<(), AllocError>
     ensures added { λ r. ⌜ made r (λ _. vec-items (now (out .exit)) ≡ vec-items (now (out .entry)) ++ total-line totals) ⌝ }
 {
     let Ok(n) = print_totals(page, totals) else {

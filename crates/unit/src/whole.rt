@@ -1,9 +1,10 @@
 // A text with its log, and a whole input.
+ghost use mathlib.Core.Path.{_≡_};
 ghost use Rattle.std.specs.Of.Vec.{vec-items};
 ghost use Rattle.std.specs.Vec.{made};
 ghost use Rattle.paths.specs.Grammar.{Text};
 ghost use Rattle.reading.specs.Outcome.{Text-read};
-ghost use Rattle.unit.specs.Output.{Text-prints, Prints, Output-of};
+ghost use Rattle.unit.specs.Output.{Text-prints, too-long-line, Prints, Output-of};
 ghost use Rattle.unit.specs.Steps.{Tree-told, Run-added, Roomy, Text-added};
 use crate::prints::add_doors;
 use crate::prints::add_fault;
@@ -30,7 +31,14 @@ use translation::Translated;
 use translation::translate;
 
 // Adds the doors of a translated text, the rulings on its log and the totals to the output.
-fn add_run<R: Room + Drop>(translated: &Translated, text: &[u8], names: &Table<Name>, occurrences: &Table<Occurrence>, log: &[u8], out: &mut Vec<u8>) -> Result<(), AllocError>
+fn add_run<R: Room + Drop>(
+    translated: &Translated,
+    text: &[u8],
+    names: &Table<Name>,
+    occurrences: &Table<Occurrence>,
+    log: &[u8],
+    out: &mut Vec<u8>,
+) -> Result<(), AllocError>
     ensures added { λ r. ⌜ made r (λ _. (t : Text) → Tree-told (now (text .entry)) (now (names .entry)) (now (translated .entry)) (now (occurrences .entry)) t → Run-added places (record { start = start; after = after; chooses = chooses }) (now (text .entry)) (now (log .entry)) (vec-items (now (out .entry))) (vec-items (now (out .exit)))) ⌝ }
 {
     let mut page = [0; 16384];
@@ -43,7 +51,15 @@ fn add_run<R: Room + Drop>(translated: &Translated, text: &[u8], names: &Table<N
 }
 
 // Translates a text that was read, and adds what is printed for it and its log to the output.
-fn add_text<R: Room + Drop>(read: Read, text: &[u8], tokens: &Table<Token>, names: &Table<Name>, occurrences: &mut Table<Occurrence>, log: &[u8], out: &mut Vec<u8>) -> Result<(), AllocError>
+fn add_text<R: Room + Drop>(
+    read: Read,
+    text: &[u8],
+    tokens: &Table<Token>,
+    names: &Table<Name>,
+    occurrences: &mut Table<Occurrence>,
+    log: &[u8],
+    out: &mut Vec<u8>,
+) -> Result<(), AllocError>
     requires { ⌜ Roomy (now tokens) (now names) (now occurrences) ⌝ ∗ ⌜ Text-read (now text) (now tokens) (now names) read ⌝ }
     ensures added { λ r. ⌜ made r (λ _. Text-added places (record { start = start; after = after; chooses = chooses }) (now (text .entry)) (now (log .entry)) (vec-items (now (out .entry))) (vec-items (now (out .exit)))) ⌝ }
 {
@@ -54,7 +70,14 @@ fn add_text<R: Room + Drop>(read: Read, text: &[u8], tokens: &Table<Token>, name
 }
 
 // Reads a text, and adds its fault, or what is printed for it and its log, to the output.
-fn add_parts<R: Room + Drop>(text: &[u8], log: &[u8], tokens: &mut Table<Token>, names: &mut Table<Name>, occurrences: &mut Table<Occurrence>, out: &mut Vec<u8>) -> Result<(), AllocError>
+fn add_parts<R: Room + Drop>(
+    text: &[u8],
+    log: &[u8],
+    tokens: &mut Table<Token>,
+    names: &mut Table<Name>,
+    occurrences: &mut Table<Occurrence>,
+    out: &mut Vec<u8>,
+) -> Result<(), AllocError>
     requires { ⌜ Roomy (now tokens) (now names) (now occurrences) ⌝ }
     ensures added { λ r. ⌜ made r (λ _. Text-added places (record { start = start; after = after; chooses = chooses }) (now (text .entry)) (now (log .entry)) (vec-items (now (out .entry))) (vec-items (now (out .exit)))) ⌝ }
 {
@@ -68,16 +91,42 @@ fn add_parts<R: Room + Drop>(text: &[u8], log: &[u8], tokens: &mut Table<Token>,
 fn rule_text<R: Room + Drop>(heap: Global, text: &[u8], log: &[u8]) -> Result<Vec<u8>, AllocError>
     ensures printed { λ r. ⌜ made r (λ v. Text-prints places (record { start = start; after = after; chooses = chooses }) (now (text .entry)) (now (log .entry)) (vec-items v)) ⌝ }
 {
-    let mut token_places = [Token { kind: Kind::End, place: 0, len: 0 }; 1088];
+    let mut token_places = [Token {
+        kind: Kind::End,
+        place: 0,
+        len: 0,
+    }; 1088];
     let mut name_places = [Name { place: 0, len: 0 }; 64];
-    let door = Door { semaphore: 0, counter: None };
-    let mut occurrence_places = [Occurrence { path: 0, operation: 0, left: door, right: door }; 256];
+    let door = Door {
+        semaphore: 0,
+        counter: None,
+    };
+    let mut occurrence_places = [Occurrence {
+        path: 0,
+        operation: 0,
+        left: door,
+        right: door,
+    }; 256];
     let mut tokens = Table::new(&mut token_places);
     let mut names = Table::new(&mut name_places);
     let mut occurrences = Table::new(&mut occurrence_places);
     let mut out = Vec::new(heap);
-    add_parts::<R>(text, log, &mut tokens, &mut names, &mut occurrences, &mut out)?;
+    add_parts::<R>(
+        text,
+        log,
+        &mut tokens,
+        &mut names,
+        &mut occurrences,
+        &mut out,
+    )?;
     Ok(out)
+}
+
+// What is printed for an input that is too long.
+fn long_input_line() -> &'static [u8]
+    ensures line { λ r. ⌜ now r ≡ too-long-line ⌝ }
+{
+    b"input longer than 65536\n"
 }
 
 // What is printed for an input, over a room of this kind.
@@ -91,7 +140,7 @@ fn rule_input<R: Room + Drop>(heap: Global, input: &[u8]) -> Result<Vec<u8>, All
             let log_start = parts.log_start;
             rule_text::<R>(heap, &input[0..text_end], &input[log_start..])
         }
-        Err(_) => Vec::from_slice(heap, b"input longer than 65536\n"),
+        Err(_) => Vec::from_slice(heap, long_input_line()),
     }
 }
 

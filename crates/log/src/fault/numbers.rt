@@ -17,8 +17,8 @@ pub impl From<LineFault> for LogFault as LineInLog {
 pub impl From<RunFault> for LogFault as RunInLog {
     ghost converts = { λ r f. f ≡ InRun r };
 
-    fn from(refusal: RunFault) -> LogFault {
-        LogFault::Run(refusal)
+    fn from(fault: RunFault) -> LogFault {
+        LogFault::Run(fault)
     }
 }
 

@@ -1,8 +1,6 @@
-use mathlib.Core.Path.{_≡_, subst, ap, _∙_}
+use mathlib.Core.Path.{subst, ap, _∙_}
 use Rattle.std.proofs.shelf.Results.{err-from-errBy}
 use Rattle.std.specs.declared.result.Result.the-variants.{Err}
-use Rattle.table.specs.Contents.{contents}
-use Rattle.run.specs.Memory.{view}
 use Rattle.lines.specs.Lines.{Lawful}
 use Rattle.lines.specs.Reads.{meaning}
 use Rattle.log.specs.Rulings.{no-begin, no-end, lawful}

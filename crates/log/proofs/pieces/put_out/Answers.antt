@@ -7,6 +7,6 @@ use Rattle.log.proofs.pieces.put_out.Needs as need
 
 pub returns : need.returns
 returns c = record {
-  written = same-bytes (simp append-assoc) (written-more (c .put-subject-at .ensures .written) (c .put .ensures .written));
+  written = same-bytes (simp append-assoc) (written-more (c .put-subject-at .ensures .written) (c .put-out-end .ensures .written));
   short = out-fits (c .args .number) (c .args .name .now) (twenty-digits (c .args .number) (omega arith));
 }

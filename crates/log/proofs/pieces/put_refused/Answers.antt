@@ -17,8 +17,10 @@ returns-in-rest c =
     let n = c .args .number in
     let k = c .args .refusal in
     let same : (decimal n ++ (32 ∷ codes "refused")) ++ (32 ∷ (decimal k ++ (10 ∷ []))) ≡ refused-line n k None = simp append-assoc in
-    record { written = same-bytes (same ∙ ap (refused-line n k) (sym (c .in-rest .is))) (written-more (c .put-subject-at .ensures .written) (c .put-last .ensures .written));
-      short = subst (λ x. length (refused-line n k x) ≤ 74) (sym (c .in-rest .is)) (refused-fits n k (twenty-digits n (omega arith)) (twenty-digits k (omega arith))) }
+    record {
+      written = same-bytes (same ∙ ap (refused-line n k) (sym (c .in-rest .is))) (written-more (c .put-no-at .ensures .written) (c .put-last .ensures .written));
+      short = subst (λ x. length (refused-line n k x) ≤ 74) (sym (c .in-rest .is)) (refused-fits n k (twenty-digits n (omega arith)) (twenty-digits k (omega arith)));
+    }
 
 pub returns : need.returns
 returns c =
@@ -26,6 +28,8 @@ returns c =
     let k = c .args .refusal in
     let p = c .in-Some .place in
     let same : ((decimal n ++ (32 ∷ codes "refused")) ++ (32 ∷ decimal k)) ++ (32 ∷ (codes "at" ++ (32 ∷ (decimal p ++ (10 ∷ []))))) ≡ refused-line n k (Some p) = simp append-assoc in
-    record { written = same-bytes (same ∙ ap (refused-line n k) (sym (c .in-Some .is)))
-      (written-more (written-more (c .put-subject-at .ensures .written) (c .put-figure .ensures .written)) (c .put-ending .ensures .written));
-      short = subst (λ x. length (refused-line n k x) ≤ 74) (sym (c .in-Some .is)) (refused-at-fits n k p (twenty-digits n (omega arith)) (twenty-digits k (omega arith)) (twenty-digits p (omega arith))) }
+    record {
+      written = same-bytes (same ∙ ap (refused-line n k) (sym (c .in-Some .is)))
+          (written-more (written-more (c .put-no-at .ensures .written) (c .put-figure .ensures .written)) (c .put-at .ensures .written));
+      short = subst (λ x. length (refused-line n k x) ≤ 74) (sym (c .in-Some .is)) (refused-at-fits n k p (twenty-digits n (omega arith)) (twenty-digits k (omega arith)) (twenty-digits p (omega arith)));
+    }

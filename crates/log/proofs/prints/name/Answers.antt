@@ -1,5 +1,4 @@
 use mathlib.Core.Path.{sym, ap, _∙_}
-use lib.ListN.{take, drop}
 use Rattle.std.proofs.shelf.Lists.{getD-past}
 use Rattle.table.specs.Contents.{contents}
 use Rattle.tokens.specs.Tokens.{spelled}

@@ -1,5 +1,4 @@
 use mathlib.Core.Path.{_≡_, ap, subst}
-use mathlib.Core.List.{_++_}
 use Prim.Native.Nat.{_+_, _*_, _≤_}
 use native.Mathlib.Omega.{arith}
 use lib.ListN.{length, getD, take, length-append}
@@ -22,12 +21,13 @@ loop-one-again c =
     let xs = c .args .list .now in
     let i = c .loop-one .one-index in
     let more = one-more-line f xs i nobody (omega arith) in
-    let short = c .put-let-in-at .ensures .short in
-    (same-bytes more (written-more (c .loop-one .inv .0) (c .put-let-in-at .ensures .written)),
-     λ r. let before = c .loop-one .inv .1 r in
+    let short = c .put-let-in-at .ensures .short in (
+      same-bytes more (written-more (c .loop-one .inv .0) (c .put-let-in-at .ensures .written)),
+      λ r. let before = c .loop-one .inv .1 r in
           let one : length (f (getD xs i nobody)) ≤ 62 = short r in
           let both = length-append (joined f (take i xs)) (f (getD xs i nobody)) in
-          subst (λ l. length l ≤ 62 * (i + 1)) more (omega (arith, before, one, both)))
+          subst (λ l. length l ≤ 62 * (i + 1)) more (omega (arith, before, one, both)),
+    )
 
 pub returns : need.returns
 returns c =

@@ -1,4 +1,4 @@
-use mathlib.Core.Path.{_≡_, ap, subst}
+use mathlib.Core.Path.{ap, subst}
 use mathlib.Core.List.{List, _++_}
 use Prim.Native.Nat.{ℕ, _+_, _*_, _≤_}
 use native.Mathlib.Omega.{arith}
@@ -22,6 +22,6 @@ returns c =
     record {
       written = same-bytes (ap whole is) (written-more (c .put-out-at .ensures .written) (c .put-all .ensures .written));
       short = λ r. let fits = name-fits (c .args .text .now) (contents (c .args .names .now)) r (c .args .operation) in
-                   let all = c .put-all .ensures .short r in
-                   subst (λ w. length w ≤ 42 + 62 * length (c .args .list .now)) (ap whole is) (omega (arith, out, both, fits, all, ap length is));
+          let all = c .put-all .ensures .short r in
+          subst (λ w. length w ≤ 42 + 62 * length (c .args .list .now)) (ap whole is) (omega (arith, out, both, fits, all, ap length is));
     }

@@ -1,4 +1,4 @@
-use mathlib.Core.Path.{sym, ap, subst}
+use mathlib.Core.Path.{ap, subst}
 use mathlib.Core.List.{List}
 use Prim.Native.Nat.{ℕ, _≤_}
 use native.Mathlib.Omega.{arith}
@@ -14,9 +14,9 @@ pub returns : need.returns
 returns c =
     let is = c .name .ensures .spelled in
     let line : List ℕ → List ℕ = λ w. ticket-line (c .args .number) w (codes "in") (c .args .one .ticket) in
-    let short = c .put-ticket .ensures .short in
+    let short = c .put-in .ensures .short in
     record {
-      written = same-bytes (ap line is) (c .put-ticket .ensures .written);
+      written = same-bytes (ap line is) (c .put-in .ensures .written);
       short = λ r. let fits = name-fits (c .args .text .now) (contents (c .args .names .now)) r (c .args .one .operation) in
-                   subst (λ w. length w ≤ 62) (ap line is) (omega (arith, short, fits, ap length is));
+          subst (λ w. length w ≤ 62) (ap line is) (omega (arith, short, fits, ap length is));
     }

@@ -12,12 +12,14 @@ loop-line-holds g c =
 
 pub loop-line-again : need.loop-line-again
 loop-line-again g c =
-    let next = c .in-Some .ensures tt in
-    (omega (arith, c .loop-line .inv .0, next .moved), next .bytes ∙ c .loop-line .inv .1,
-     λ t read reached. going-more (g .R·Room .places) _ t _ _ _ _ _ _ _ _ _ _ _ _ read (c .loop-line .inv .2 t read reached) (next .line) (c .in-Continue-add-ruling .ensures tt .added))
+    let next = c .in-Some .ensures tt in (
+      omega (arith, c .loop-line .inv .0, next .moved, c .following-number .ensures .following),
+      next .bytes ∙ c .loop-line .inv .1,
+      λ t read reached. going-more (g .R·Room .places) _ t _ _ _ _ _ _ _ _ _ _ _ _ _ read (c .loop-line .inv .2 t read reached) (next .line) (c .following-number .ensures .following) (c .in-Continue-add-ruling .ensures tt .added),
+    )
 
-pub add-number : need.add-number
-add-number g c =
+pub following-number-requires : need.following-number-requires
+following-number-requires g c κs =
     let next = c .in-Some .ensures tt in
     omega (arith, c .loop-line .inv .0, next .moved, next .bound, ap length (next .bytes ∙ c .loop-line .inv .1))
 

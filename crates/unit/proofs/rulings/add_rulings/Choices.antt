@@ -17,7 +17,7 @@ Inv-loop-line g l =
     let rule : Rule = record { start = g .R·Room .start; after = g .R·Room .after; chooses = g .R·Room .chooses } in
     (l .number ≤ l .lines .place) × (whole (l .lines) ≡ l .log)
     × ((t : Text) → Read-names (contents (l .names)) → Reached t rule (view (g .R·Room .entries) (g .R·Room .memory) (l .entry .run)) [] →
-        Going (g .R·Room .places) rule t (l .text) (contents (l .names)) (vec-items (l .entry .out)) (l .log) (unread (l .lines)) (l .number) (view (g .R·Room .entries) (g .R·Room .memory) (l .run)) (vec-items (l .out)))
+    Going (g .R·Room .places) rule t (l .text) (contents (l .names)) (vec-items (l .entry .out)) (l .log) (unread (l .lines)) (l .number) (view (g .R·Room .entries) (g .R·Room .memory) (l .run)) (vec-items (l .out)))
 
 abbrev pub μ-loop-line : given.MeasureT-loop-line
 μ-loop-line g l = length (l .log) - l .lines .place

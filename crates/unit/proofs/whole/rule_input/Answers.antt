@@ -1,7 +1,7 @@
-use mathlib.Core.Path.{_≡_, ap}
+use mathlib.Core.Path.{_≡_, ap, _∙_}
 use Prim.Native.Nat.{_-_}
 use native.Mathlib.Omega.{arith}
-use lib.ListN.{length, take}
+use lib.ListN.{take}
 use Rattle.std.specs.Of.Vec.{vec-items}
 use Rattle.std.proofs.shelf.Results.{made-weaker}
 use Rattle.std.proofs.shelf.Lists.{take-rest}
@@ -17,4 +17,4 @@ returns-in-Ok g c =
     record { printed = input-short (g .R·Room .places) _ input _ _ _ _ vec-items (c .rule-text .result) (c .in-Ok .ensures tt .judged) (c .split-parts .ensures .cut) (ap (λ k. take k input) front) (take-rest input (c .split-parts .result .«log_start»)) (c .rule-text .ensures .printed) }
 
 pub returns-in-Err : need.returns-in-Err
-returns-in-Err g c = record { printed = made-weaker (c .from-slice .result) _ _ (λ v e. too-long (c .in-Err .ensures tt .judged) (e .0)) (c .from-slice .ensures .made) }
+returns-in-Err g c = record { printed = made-weaker (c .from-slice .result) _ _ (λ v e. too-long (c .in-Err .ensures tt .judged) (e .0 ∙ c .long-input-line .ensures .line)) (c .from-slice .ensures .made) }

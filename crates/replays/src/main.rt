@@ -37,16 +37,39 @@ fn refused(rt: &LibcRuntime, fault: RunFault) -> io::Result<()> {
 }
 
 fn replayed<R: Room + Drop>(rt: &LibcRuntime, text: &[u8], calls: &[Call; 10]) -> io::Result<()> {
-    let mut tokens = [Token { kind: Kind::End, place: 0, len: 0 }; 1_088];
+    let mut tokens = [Token {
+        kind: Kind::End,
+        place: 0,
+        len: 0,
+    }; 1_088];
     let mut names = [Name { place: 0, len: 0 }; 64];
-    let door = Door { semaphore: 0, counter: None };
-    let mut occurrences = [Occurrence { path: 0, operation: 0, left: door, right: door }; 256];
+    let door = Door {
+        semaphore: 0,
+        counter: None,
+    };
+    let mut occurrences = [Occurrence {
+        path: 0,
+        operation: 0,
+        left: door,
+        right: door,
+    }; 256];
     let mut tokens = Table::new(&mut tokens);
     let mut names = Table::new(&mut names);
     let mut occurrences = Table::new(&mut occurrences);
     let mut answers = [Answer::End(Ok(0)); 10];
-    let mut list = [LetIn { ticket: 0, operation: 0 }; 256];
-    match replay::<R>(text, &mut tokens, &mut names, &mut occurrences, calls, &mut answers, &mut list) {
+    let mut list = [LetIn {
+        ticket: 0,
+        operation: 0,
+    }; 256];
+    match replay::<R>(
+        text,
+        &mut tokens,
+        &mut names,
+        &mut occurrences,
+        calls,
+        &mut answers,
+        &mut list,
+    ) {
         Ok(closed) => {
             for answer in answers {
                 show(rt, answer)?;

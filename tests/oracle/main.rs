@@ -1,4 +1,4 @@
-//! The order unit once more, in plain Rust with the standard library, written from docs/ alone.
+//! The order unit once more, in plain Rust with the standard library, written apart from the crates.
 //! It is the independent side of the comparison in tests/compare: standard input to standard output.
 use std::collections::{BTreeMap, HashMap, HashSet};
 use std::io::{Read, Write};

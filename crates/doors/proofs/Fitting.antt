@@ -45,7 +45,7 @@ module _ (a : ℕ) (σ : Standing) where
   first_of b o os e h = (subst (λ z. All (Enterable σ) (cond z (o ∷ os) os)) e h).0
 
   each_open : (os : List TheOccurrence) → All (Enterable σ) (of_operation a os) → OpenTo a os σ
-  each_open [] h o m e = absurd (Memᴰ.not_nil m)
+  each_open [] h o m e = absurd (Memᴰ.not-nil m)
   each_open (p ∷ os) h o m e = go (Memᴰ.cases_cons m) (each_open os (rest_of (eqb a p.operation) p (of_operation a os) h))
     where
       go : (o ≡ p) ⊎ Memᴰ o os → OpenTo a os σ → Open o.left σ

@@ -38,7 +38,7 @@ all_open? x [] σ = true
 all_open? x (o ∷ os) σ = cond (eqb x o.operation) (cond (open? o.left σ) (all_open? x os σ) false) (all_open? x os σ)
 
 all_right : (x : ℕ) (os : List Occurrence) (σ : Standing) → T (all_open? x os σ) → OpenTo x os σ
-all_right x [] σ h o m e = absurd (Memᴰ.not_nil m)
+all_right x [] σ h o m e = absurd (Memᴰ.not-nil m)
 all_right x (q ∷ os) σ h o m e = go (Memᴰ.cases_cons m) (λ t k. all_right x os σ t o k e)
   where
     rest : T (all_open? x (q ∷ os) σ) → T (all_open? x os σ)

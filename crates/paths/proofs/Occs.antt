@@ -16,7 +16,7 @@ use Rattle.paths.proofs.Steps.{begins, ends}
 
 -- ---- among
 pub mem_among : (a : ℕ) (ns : List ℕ) → Memᴰ a ns → among a ns ≡ true
-mem_among a [] m = absurd (Memᴰ.not_nil m)
+mem_among a [] m = absurd (Memᴰ.not-nil m)
 mem_among a (b ∷ ns) m = go (Memᴰ.cases_cons m) (mem_among a ns)
   where
     go : (a ≡ b) ⊎ Memᴰ a ns → (Memᴰ a ns → among a ns ≡ true) → cond (eqb a b) true (among a ns) ≡ true
@@ -46,7 +46,7 @@ distinct_right [] ms d = d
 distinct_right (a ∷ ns) ms d = distinct_right ns ms d.1
 
 distinct_apart : (ns ms : List ℕ) → Distinct (ns ++ ms) → Apart ns ms
-distinct_apart [] ms d a m k = Memᴰ.not_nil m
+distinct_apart [] ms d a m k = Memᴰ.not-nil m
 distinct_apart (b ∷ ns) ms d a m k = go (Memᴰ.cases_cons m) (distinct_apart ns ms d.1 a)
   where
     go : (a ≡ b) ⊎ Memᴰ a ns → (Memᴰ a ns → Memᴰ a ms → ⊥) → ⊥
@@ -88,7 +88,7 @@ ops_d (alt x y) l r s c =
 ops_d (burst x) l r s c = ops_d x (with_counter c l) (with_counter c r) s (c + 1)
 
 pub mem_ops : (o : Occurrence) (os : List Occurrence) → Memᴰ o os → Memᴰ o.operation (ops os)
-mem_ops o [] m = absurd (Memᴰ.not_nil m)
+mem_ops o [] m = absurd (Memᴰ.not-nil m)
 mem_ops o (p ∷ os) m = go (Memᴰ.cases_cons m) (mem_ops o os)
   where
     go : (o ≡ p) ⊎ Memᴰ o os → (Memᴰ o os → Memᴰ o.operation (ops os)) → Memᴰ o.operation (p.operation ∷ ops os)
@@ -96,7 +96,7 @@ mem_ops o (p ∷ os) m = go (Memᴰ.cases_cons m) (mem_ops o os)
     go (inr q) ih = Memᴰ.tail (ih q)
 
 pub ops_mem : (a : ℕ) (os : List Occurrence) → Memᴰ a (ops os) → (o : Occurrence) × Memᴰ o os × (o.operation ≡ a)
-ops_mem a [] m = absurd (Memᴰ.not_nil m)
+ops_mem a [] m = absurd (Memᴰ.not-nil m)
 ops_mem a (p ∷ os) m = go (Memᴰ.cases_cons m) (ops_mem a os)
   where
     go : (a ≡ p.operation) ⊎ Memᴰ a (ops os) → (Memᴰ a (ops os) → (o : Occurrence) × Memᴰ o os × (o.operation ≡ a)) →
@@ -105,7 +105,7 @@ ops_mem a (p ∷ os) m = go (Memᴰ.cases_cons m) (ops_mem a os)
     go (inr q) ih = let i = ih q in (i.0, Memᴰ.tail i.1, i.2)
 
 pub unique : (os : List Occurrence) → Distinct (ops os) → (o p : Occurrence) → Memᴰ o os → Memᴰ p os → o.operation ≡ p.operation → o ≡ p
-unique [] d o p m k e = absurd (Memᴰ.not_nil m)
+unique [] d o p m k e = absurd (Memᴰ.not-nil m)
 unique (q ∷ os) d o p m k e = go (Memᴰ.cases_cons m) (Memᴰ.cases_cons k) (unique os d.1 o p)
   where
     go : (o ≡ q) ⊎ Memᴰ o os → (p ≡ q) ⊎ Memᴰ p os → (Memᴰ o os → Memᴰ p os → o.operation ≡ p.operation → o ≡ p) → o ≡ p
@@ -122,7 +122,7 @@ next_none (o ∷ os) e σ p =
     (λ q h. zero_one (cc)) (λ n h. next_none os e σ h) p
 
 pub next_one : (os : List Occurrence) → Distinct (ops os) → (o : Occurrence) → Memᴰ o os → (e : Event) (σ : Standing) → operation e ≡ o.operation → next os e σ ≡ passed e o σ
-next_one [] d o m e σ p = absurd (Memᴰ.not_nil m)
+next_one [] d o m e σ p = absurd (Memᴰ.not-nil m)
 next_one (q ∷ os) d o m e σ p = go (Memᴰ.cases_cons m) (next_one os d.1 o)
   where
     go : (o ≡ q) ⊎ Memᴰ o os → (Memᴰ o os → (e : Event) (σ : Standing) → operation e ≡ o.operation → next os e σ ≡ passed e o σ) →

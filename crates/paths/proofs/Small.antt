@@ -159,7 +159,7 @@ all_small (one p) ok π s c pre below σ ones zeros h f j =
     let B = beyond_same s₁ c₁ j (pre ++ own) (lower_after p π s c pre below) h σ in
     joined p ok π s c j h f (after (pre ++ own) σ h)
     (subst (λ (os : List Occurrence). Agree (region p s c) (after (pre ++ os) σ h) (after own (opening s) h)) (append-nil own)
-    (path_agree p π s c pre [] below (λ o m. absurd (Memᴰ.not_nil m)) σ (λ i x y. ones i x) zeros h)) (
+    (path_agree p π s c pre [] below (λ o m. absurd (Memᴰ.not-nil m)) σ (λ i x y. ones i x) zeros h)) (
       (λ x. let e = B.0 x in let u = ones j (omega arith) in let v = at_most_one j s in omega arith),
       (λ x. let e = B.1 x in let u = zeros j in omega arith),
     )
@@ -179,5 +179,5 @@ all_small (more p t) ok π s c pre below σ ones zeros h f j =
 
 pub standing_is_small : StandingIsSmall
 standing_is_small t ok h f j =
-    let b = all_small t ok 0 0 0 [] (λ o m. absurd (Memᴰ.not_nil m)) (text_opening t) (λ i x. refl) (λ k. refl) h f j in
+    let b = all_small t ok 0 0 0 [] (λ o m. absurd (Memᴰ.not-nil m)) (text_opening t) (λ i x. refl) (λ k. refl) h f j in
     record { semaphores = b.0 (omega arith); counters = b.1 (omega arith) }

@@ -306,7 +306,7 @@ all_open : (t : Text) → EachProper t → (π s c : ℕ) (pre : List Occurrence
     OpenTo a (text_doors t π s c) (after (pre ++ text_doors t π s c) σ h) ↔ FitsAll t (h ++ (⊕ a ∷ []))
 all_open (one p) ok π s c pre below σ ones zeros h f a =
     subst (λ (os : List Occurrence). OpenTo a (path_doors p π s c) (after (pre ++ os) σ h) ↔ Fits p (h ++ (⊕ a ∷ []))) (append-nil (path_doors p π s c))
-    (among_others p ok π s c pre [] below (λ o m. absurd (Memᴰ.not_nil m)) σ (λ j x y. ones j x) zeros h f a)
+    (among_others p ok π s c pre [] below (λ o m. absurd (Memᴰ.not-nil m)) σ (λ j x y. ones j x) zeros h f a)
 all_open (more p t) ok π s c pre below σ ones zeros h f a =
     let own = path_doors p π s c in
     let s₁ = s + 1 + semaphores_in_sequence p in
@@ -355,7 +355,7 @@ end_runs (more p t) ok h f a m g = go (Memᴰ.append_cases (names_of_sequence p)
 
 pub all_doors_are_right : AllDoorsAreRight
 all_doors_are_right t ok h f a = record {
-  opens = all_open t ok 0 0 0 [] (λ o m. absurd (Memᴰ.not_nil m)) (text_opening t) (λ j x. refl) (λ k. refl) h f a;
+  opens = all_open t ok 0 0 0 [] (λ o m. absurd (Memᴰ.not-nil m)) (text_opening t) (λ j x. refl) (λ k. refl) h f a;
   ends = λ m. (all_end t ok h f a, end_runs t ok h f a m);
   goes = after_snoc (text_doors t 0 0 0) (text_opening t) h (⊕ a);
   leaves = after_snoc (text_doors t 0 0 0) (text_opening t) h (⊖ a);

@@ -13,4 +13,4 @@ pub returns : goal.returns
 returns t c =
     let s = c.split-front in
     let digits = one_more c.args.n s.result.0 s.result.1 (omega arith) s.ensures.front s.ensures.last c.if-front-eq0.false in
-    record { written = same_bytes digits (written_more c.put-number-at.ensures.written c.put-2.ensures.written); short = twenty_digits c.args.n (omega arith) }
+    record { written = same_bytes digits (written_more c.put_number-at.ensures.written c.put-2.ensures.written); short = twenty_digits c.args.n (omega arith) }

@@ -14,16 +14,16 @@ loop-i-preserved c =
     let xs = row d.rows c.args.operation in
     let lt : c.loop-i.i < length xs = omega (arith, c.count-i-end.ensures.count, c.loop-i-test.true) in
     All-more (Lets d.levels) xs c.loop-i.i c.at.result lt c.loop-i.invariant
-    (subst (Lets d.levels) c.at.ensures.shown (c.lets_in.ensures.decides.0 c.if-not-lets-in.false))
+    (subst (Lets d.levels) c.at.ensures.shown (c.lets_in.ensures.decides.0 c.if-not-lets_in.false))
 
-pub returns-then-not-lets-in : goal.returns-then-not-lets-in
-returns-then-not-lets-in c =
+pub returns-then-not-lets_in : goal.returns-then-not-lets_in
+returns-then-not-lets_in c =
     let d = c.args.self.now in
     let xs = row d.rows c.args.operation in
     let lt : c.loop-i.i < length xs = omega (arith, c.count-i-end.ensures.count, c.loop-i-test.true) in
     let shut : Decides false (All (Lets d.levels) xs) = (
       (λ e. absurd (false≢true e)),
-      (λ all. c.if-not-lets-in.ensures.decides.1
+      (λ all. c.if-not-lets_in.ensures.decides.1
           (subst (Lets d.levels) (sym c.at.ensures.shown) (All-get_or (Lets d.levels) xs c.loop-i.i c.at.result lt all))),
     ) in
     record {

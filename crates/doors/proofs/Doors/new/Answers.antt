@@ -4,7 +4,7 @@ use Rattle.table.specs.Contents.{contents}
 use Rattle.doors.specs.Memory.{room}
 use Rattle.doors.proofs.Opened.{kept_more, kept_all}
 use Rattle.doors.proofs.Doors.new.Goals as goal
-use Rattle.doors.proofs.Doors.new.Goals.{in-Some, in-default}
+use Rattle.doors.proofs.Doors.new.Goals.{in-Some, in_default}
 
 pub loop-i-init : goal.loop-i-init
 loop-i-init c = record {
@@ -21,7 +21,7 @@ loop-i-preserved c =
           (let told = w.in-Some.ensures.shown in
           simp (w.doors-is, w.before-is)
           (kept_more xs c.loop-i.i w.in-Some.occurrence told.0 told.1 c.loop-i.doors w.add.new.self c.loop-i.before c.loop-i.invariant w.add.ensures.rows w.add.ensures.levels))
-      | in-default w ↦ (let z : ⊥ = omega (arith, w.in-default.ensures.shown, c.loop-i-test.true) in absurd z)
+      | in_default w ↦ (let z : ⊥ = omega (arith, w.in_default.ensures.shown, c.loop-i-test.true) in absurd z)
     ]
 
 pub returns : goal.returns

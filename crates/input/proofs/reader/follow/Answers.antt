@@ -3,8 +3,8 @@ use Rattle.std.proofs.lemmas.List.{drop_all, length-drop, length-take}
 use Rattle.input.proofs.Firsts.{next_line}
 use Rattle.input.proofs.reader.follow.Goals as goal
 
-pub returns-then-place-bytes : goal.returns-then-place-bytes
-returns-then-place-bytes c = record { line = drop_all c.args.place c.args.bytes.now (omega arith); moved = refl; bound = c.requires }
+pub returns-then-place_bytes : goal.returns-then-place_bytes
+returns-then-place_bytes c = record { line = drop_all c.args.place c.args.bytes.now (omega arith); moved = refl; bound = c.requires }
 
 pub returns : goal.returns
 returns c =
@@ -12,7 +12,7 @@ returns c =
     let long = simp (length-take, length-drop) at c.taken.ensures.bound in
     let some = simp (length-take, length-drop) at c.taken.ensures.some in
     record {
-      line = next_line c.args.bytes.now c.args.place c.line-len-len.result c.taken.result inside c.line-len-len.ensures.line c.taken.ensures.ended c.taken.ensures.last;
+      line = next_line c.args.bytes.now c.args.place c.line_len-len.result c.taken.result inside c.line_len-len.ensures.line c.taken.ensures.ended c.taken.ensures.last;
       moved = omega arith;
       bound = omega arith;
     }

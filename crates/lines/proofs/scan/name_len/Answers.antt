@@ -3,11 +3,11 @@ use Rattle.std.proofs.lemmas.Bool.{eqb-true}
 use Rattle.std.proofs.lemmas.Bool.Decides.{not_from_Decides}
 use Rattle.lines.proofs.Tails.{no_name, name_more, name_stop}
 use Rattle.lines.proofs.scan.name_len.Goals as goal
-use Rattle.lines.proofs.scan.name_len.Goals.{then-is-empty-via-then-is-empty, then-is-empty-via-else-is-empty+then-not-starts-name}
+use Rattle.lines.proofs.scan.name_len.Goals.{then-is_empty-via-then-is_empty, then-is_empty-via-else-is_empty+then-not-starts_name}
 
-pub returns-then-is-empty : goal.returns-then-is-empty
-returns-then-is-empty c = record {
-  longest = no_name c.args.rest.now (λ lt e. elim c.then-is-empty.branch [ then-is-empty-via-then-is-empty w ↦ let z = eqb-true _ _ (sym w.if-is-empty.ensures) in omega arith | then-is-empty-via-else-is-empty+then-not-starts-name w ↦ not_from_Decides _ w.starts-name.ensures.letter w.if-not-starts-name.true e ]);
+pub returns-then-is_empty : goal.returns-then-is_empty
+returns-then-is_empty c = record {
+  longest = no_name c.args.rest.now (λ lt e. elim c.then-is_empty.branch [ then-is_empty-via-then-is_empty w ↦ let z = eqb-true _ _ (sym w.if-is_empty.ensures) in omega arith | then-is_empty-via-else-is_empty+then-not-starts_name w ↦ not_from_Decides _ w.starts_name.ensures.letter w.if-not-starts_name.true e ]);
   bound = omega arith;
   short = omega arith;
 }

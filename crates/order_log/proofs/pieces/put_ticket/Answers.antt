@@ -6,6 +6,6 @@ use Rattle.order_log.proofs.pieces.put_ticket.Goals as goal
 
 pub returns : goal.returns
 returns c = record {
-  written = same_bytes (simp append_assoc) (written_more c.put-subject-at.ensures.written c.put-ending.ensures.written);
+  written = same_bytes (simp append_assoc) (written_more c.put_subject-at.ensures.written c.put_ending.ensures.written);
   short = ticket_fits c.args.number c.args.name.now c.args.word.now c.args.ticket (twenty_digits c.args.number (omega arith)) (twenty_digits c.args.ticket (omega arith));
 }

@@ -18,8 +18,8 @@ loop-one-preserved c =
     let xs = c.args.list.now in
     let i = c.loop-one.one_Index in
     let more = one_more_line f xs i nobody (omega arith) in
-    let short = c.put-let-in-at.ensures.short in (
-      same_bytes more (written_more c.loop-one.invariant.0 c.put-let-in-at.ensures.written),
+    let short = c.put_let_in-at.ensures.short in (
+      same_bytes more (written_more c.loop-one.invariant.0 c.put_let_in-at.ensures.written),
       λ r. let before = c.loop-one.invariant.1 r in
           let one : length (f (get_or xs i nobody)) ≤ 62 = short r in
           let both = length-append (flat_map f (take i xs)) (f (get_or xs i nobody)) in

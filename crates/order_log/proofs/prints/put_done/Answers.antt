@@ -13,11 +13,11 @@ returns-in-Begun c =
     let text = c.args.text.now in
     let names = contents c.args.names.now in
     let is = c.name.ensures.spelled in
-    let short = c.put-begun.ensures.short in
+    let short = c.put_begun.ensures.short in
     let same : begun_line n c.name.result.now c.in-Begun.begun ≡ done_lines (name_bytes text names) n c.args.list.now c.args.done =
     ap (λ w. begun_line n w c.in-Begun.begun) is ∙ ap (done_lines (name_bytes text names) n c.args.list.now) (sym c.in-Begun.is) in
     record {
-      written = same_bytes same c.put-begun.ensures.written;
+      written = same_bytes same c.put_begun.ensures.written;
       short = λ r. subst (λ l. length l ≤ 16384) same (omega (arith, short, name_fits text names r c.in-Begun.operation, ap length is));
     }
 
@@ -27,10 +27,10 @@ returns-in-Withdrawn c =
     let text = c.args.text.now in
     let names = contents c.args.names.now in
     let is = c.name-in-Withdrawn.ensures.spelled in
-    let short = c.put-gone.ensures.short in
+    let short = c.put_gone.ensures.short in
     let same : ticket_line n c.name-in-Withdrawn.result.now (codes "gone") c.in-Withdrawn.ticket ≡ done_lines (name_bytes text names) n c.args.list.now c.args.done =
     ap (λ w. ticket_line n w (codes "gone") c.in-Withdrawn.ticket) is ∙ ap (done_lines (name_bytes text names) n c.args.list.now) (sym c.in-Withdrawn.is) in
     record {
-      written = same_bytes same c.put-gone.ensures.written;
+      written = same_bytes same c.put_gone.ensures.written;
       short = λ r. subst (λ l. length l ≤ 16384) same (omega (arith, short, name_fits text names r c.in-Withdrawn.operation, ap length is));
     }

@@ -13,5 +13,5 @@ returns c =
     let same : ((codes "total" ++ (32 ∷ (decimal t.accepted ++ (32 ∷ decimal t.running)))) ++ (32 ∷ (decimal t.waiting ++ (32 ∷ decimal t.ended)))) ++ (32 ∷ (decimal t.withdrawn ++ (10 ∷ []))) ≡ total_line t = simp append_assoc in
     record {
       printed = whole (omega arith) (same_bytes same
-          (written_more (written_more (written_more c.put-total-begun.ensures.written c.put-begun-counts.ensures.written) c.put-other-counts.ensures.written) c.put-last.ensures.written));
+          (written_more (written_more (written_more c.put_total-begun.ensures.written c.put_begun_counts.ensures.written) c.put_other_counts.ensures.written) c.put_last.ensures.written));
     }

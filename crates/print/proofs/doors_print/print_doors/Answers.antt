@@ -7,10 +7,10 @@ use Rattle.print.proofs.doors_print.print_doors.Goals as goal
 
 pub returns : goal.returns
 returns c =
-    let large = c.in-ok-check-page.ensures.checked in
+    let large = c.in_ok-check_page.ensures.checked in
     let room : 16384 ≤ length c.args.page.now = leb-true 16384 _ (sym large) in
     record {
       checked = large;
-      put = c.put-lines.ensures.written;
-      whole = λ t d. whole (omega (arith, doors_fit c.args.text.now t d.within)) (same_bytes (λ i. lines c.args.text.now (d.names_are i) (d.doors_are i)) c.put-lines.ensures.written);
+      put = c.put_lines.ensures.written;
+      whole = λ t d. whole (omega (arith, doors_fit c.args.text.now t d.within)) (same_bytes (λ i. lines c.args.text.now (d.names_are i) (d.doors_are i)) c.put_lines.ensures.written);
     }

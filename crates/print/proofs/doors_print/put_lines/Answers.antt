@@ -14,7 +14,7 @@ pub loop-i-preserved : goal.loop-i-preserved
 loop-i-preserved c =
     let here = c.in-Some.ensures.shown in
     same_bytes (one_more_line c.args.text.now (contents c.args.names.now) (contents c.args.occurrences.now) c.loop-i.i c.in-Some.occurrence here.0 here.1)
-    (written_more c.loop-i.invariant c.put-line-at.ensures.written)
+    (written_more c.loop-i.invariant c.put_line-at.ensures.written)
 
 pub returns : goal.returns
 returns c =

@@ -6,6 +6,6 @@ pub returns : goal.returns
 returns c =
     record {
       counted = name_counted c.args.self.now c.args.names.now c.note.new.names c.args.token c.part.result.now c.number-n.result c.marked.result
-          c.requires.0 c.part.ensures.part c.number-n.ensures.number c.marked.ensures.marked c.in-default.ensures.told
+          c.requires.0 c.part.ensures.part c.number-n.ensures.number c.marked.ensures.marked c.in_default.ensures.told
           c.note.ensures.records c.note.ensures.rest _ refl refl refl refl refl refl refl refl;
     }

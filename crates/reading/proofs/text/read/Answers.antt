@@ -4,18 +4,18 @@ use Rattle.reading.proofs.Tables.{kept_same}
 use Rattle.reading.proofs.Judging.{stands_at_start, ready_at_start, enough_still, rest_same, answer_none, answer_failed, answer_read}
 use Rattle.reading.proofs.text.read.Goals as goal
 
-pub returns-in-err-begin : goal.returns-in-err-begin
-returns-in-err-begin c =
+pub returns-in_err-begin : goal.returns-in_err-begin
+returns-in_err-begin c =
     let ts = c.args.tokens.now in
     let ns = c.args.names.now in
     let ts0 = c.empty.new.tokens in
     let ns0 = c.empty.new.names in
     let o = c.empty.ensures in
-    let p = err_from_is_err_and c.from-residual.result c.from-residual.ensures.1 in
+    let p = err_from_is_err_and c.from_residual.result c.from_residual.ensures.1 in
     record {
       answered = rw (p.1, p.2)
-          (answer_none c.args.text.now c.new-reading.result.text.now ts ts0 ns ns0 c.in-err-begin.field-0.0 c.new-reading.ensures.unread.text_is
-          c.if-not-enough-places.ensures.measured o.tokens o.names c.in-err-begin.ensures.begun);
+          (answer_none c.args.text.now c.new-reading.result.text.now ts ts0 ns ns0 c.in_err-begin.field-0.0 c.new-reading.ensures.unread.text_is
+          c.if-not-enough_places.ensures.measured o.tokens o.names c.in_err-begin.ensures.begun);
       tokens_rest = rest_same ts ts0 ts0 o.token_places (kept_same ts0);
       names_rest = rest_same ns ns0 ns0 o.name_places (kept_same ns0);
     }
@@ -25,14 +25,14 @@ paths-requires c =
     let ts0 = c.empty.new.tokens in
     let ns0 = c.empty.new.names in
     let o = c.empty.ensures in
-    let a = c.in-ok-begin.ensures.begun in
-    let n = enough_still c.args.tokens.now ts0 c.args.names.now ns0 o.token_places o.name_places c.if-not-enough-places.ensures.measured in (
+    let a = c.in_ok-begin.ensures.begun in
+    let n = enough_still c.args.tokens.now ts0 c.args.names.now ns0 o.token_places o.name_places c.if-not-enough_places.ensures.measured in (
       ready_at_start c.new-reading.result.text.now c.begin.new.self ts0 ns0 a o.tokens o.names n,
       stands_at_start c.new-reading.result.text.now c.begin.new.self ts0 ns0 a o.tokens o.names n,
     )
 
-pub returns-in-err-paths : goal.returns-in-err-paths
-returns-in-err-paths c =
+pub returns-in_err-paths : goal.returns-in_err-paths
+returns-in_err-paths c =
     let ts = c.args.tokens.now in
     let ns = c.args.names.now in
     let ts0 = c.empty.new.tokens in
@@ -40,12 +40,12 @@ returns-in-err-paths c =
     let o = c.empty.ensures in
     let d = together c.begin.new.self ts0 ns0 in
     let d' = together c.paths.new.self c.paths.new.tokens c.paths.new.names in
-    let k = c.in-err-paths.ensures.paths in
-    let p = err_from_is_err_and c.from-residual-in-err-paths.result c.from-residual-in-err-paths.ensures.1 in
+    let k = c.in_err-paths.ensures.paths in
+    let p = err_from_is_err_and c.from_residual-in_err-paths.result c.from_residual-in_err-paths.ensures.1 in
     record {
       answered = rw (p.1, p.2)
-          (answer_failed c.args.text.now ts ns d d' c.new-reading.result.text.now c.in-err-paths.field-0.0 c.in-ok-begin.ensures.begun.text_is
-          c.new-reading.ensures.unread.text_is c.if-not-enough-places.ensures.measured k);
+          (answer_failed c.args.text.now ts ns d d' c.new-reading.result.text.now c.in_err-paths.field-0.0 c.in_ok-begin.ensures.begun.text_is
+          c.new-reading.ensures.unread.text_is c.if-not-enough_places.ensures.measured k);
       tokens_rest = rest_same ts ts0 d'.tokens o.token_places k.onward.tokens_kept;
       names_rest = rest_same ns ns0 d'.names o.name_places k.onward.names_kept;
     }
@@ -59,11 +59,11 @@ returns c =
     let o = c.empty.ensures in
     let d = together c.begin.new.self ts0 ns0 in
     let d' = together c.paths.new.self c.paths.new.tokens c.paths.new.names in
-    let k = c.in-ok-paths.ensures.paths in
+    let k = c.in_ok-paths.ensures.paths in
     record {
       answered = (
-        c.if-not-enough-places.ensures.measured,
-        answer_read c.args.text.now d d' c.new-reading.result.text.now c.counted.result c.in-ok-begin.ensures.begun.text_is
+        c.if-not-enough_places.ensures.measured,
+        answer_read c.args.text.now d d' c.new-reading.result.text.now c.counted.result c.in_ok-begin.ensures.begun.text_is
             c.new-reading.ensures.unread.text_is k.0 k.1 c.counted.ensures.paths
             c.counted.ensures.names c.counted.ensures.occurrences,
       );

@@ -34,9 +34,9 @@ returns-in-End g c =
     let l = c.args.list.now in
     let u = c.args.used in
     let sub = c.end-answer.new.list in
-    let n = c.unwrap-or.result in
+    let n = c.unwrap_or.result in
     let r = c.end-answer.result in
-    let is : n ≡ result_unwrap_or r 0 = c.unwrap-or.ensures in
+    let is : n ≡ result_unwrap_or r 0 = c.unwrap_or.ensures in
     let mid : length (mid_of u (length l - u) l) ≡ length l - u = mid_len u (length l) l (omega arith) in
     let same : length sub ≡ length l - u = c.end-answer.auto.list ∙ mid in
     let few : n ≤ length l - u = (let h = c.end-answer.ensures.within in omega (arith, h, is, mid)) in

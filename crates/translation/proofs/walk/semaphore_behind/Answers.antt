@@ -10,15 +10,15 @@ loop-token-preserved c =
     let i = c.loop-token.token in
     let d = c.loop-token.depth in
     let n = c.loop-token.semaphore in
-    let k = c.kind-at.result in
+    let k = c.kind_at.result in
     let inv = c.loop-token.invariant in
     let inside : i < length (contents T) = omega arith in
-    let on = scan_on T i d n c.match-kind-at.depth c.match-kind-at.semaphore in
-    elim c.match-kind-at.branch [
-      | in-RoundOpen w ↦ (omega (arith, w.depth-is), on _ _ k _ inside c.kind-at.ensures.kind inv.1 w.depth-is w.semaphore-is (scan_open k d n w.in-RoundOpen.is))
-      | in-RoundClose+else-depth-eq0 w ↦ (omega (arith, w.depth-is), on _ _ k _ inside c.kind-at.ensures.kind inv.1 w.depth-is w.semaphore-is (scan_close k d n w.in-RoundClose.is w.if-depth-eq0.false))
-      | in-Semicolon+else-depth-eq0-2 w ↦ (omega (arith, w.depth-is), on _ _ k _ inside c.kind-at.ensures.kind inv.1 w.depth-is (w.semaphore-is ∙ w.after-semaphore.ensures.next) (scan_semicolon k d n w.in-Semicolon.is w.if-depth-eq0-2.false))
-      | in-Comma w ↦ (omega (arith, w.depth-is), on _ _ k _ inside c.kind-at.ensures.kind inv.1 w.depth-is w.semaphore-is (scan_other k d n w.in-Comma.is))
+    let on = scan_on T i d n c.match-kind_at.depth c.match-kind_at.semaphore in
+    elim c.match-kind_at.branch [
+      | in-RoundOpen w ↦ (omega (arith, w.depth-is), on _ _ k _ inside c.kind_at.ensures.kind inv.1 w.depth-is w.semaphore-is (scan_open k d n w.in-RoundOpen.is))
+      | in-RoundClose+else-depth-eq0 w ↦ (omega (arith, w.depth-is), on _ _ k _ inside c.kind_at.ensures.kind inv.1 w.depth-is w.semaphore-is (scan_close k d n w.in-RoundClose.is w.if-depth-eq0.false))
+      | in-Semicolon+else-depth-eq0-2 w ↦ (omega (arith, w.depth-is), on _ _ k _ inside c.kind_at.ensures.kind inv.1 w.depth-is (w.semaphore-is ∙ w.after-semaphore.ensures.next) (scan_semicolon k d n w.in-Semicolon.is w.if-depth-eq0-2.false))
+      | in-Comma w ↦ (omega (arith, w.depth-is), on _ _ k _ inside c.kind_at.ensures.kind inv.1 w.depth-is w.semaphore-is (scan_other k d n w.in-Comma.is))
     ]
 
 pub returns : goal.returns

@@ -6,7 +6,7 @@ use Rattle.translation.proofs.walk.translate.Goals as goal
 pub returns : goal.returns
 returns c =
     let same = c.clear.ensures.places in
-    let yes_enough = c.if-not-enough-places.ensures.enough in
+    let yes_enough = c.if-not-enough_places.ensures.enough in
     let room = enough_room c.args.tokens.now c.args.names.now c.args.occurrences.now yes_enough in
     record {
       checked = yes_enough;

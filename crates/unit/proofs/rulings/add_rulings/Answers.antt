@@ -13,7 +13,7 @@ loop-line-preserved g c =
     let next = c.in-Some.ensures in (
       omega (arith, c.loop-line.invariant.0, next.moved, c.following-number.ensures.following),
       next.bytes ∙ c.loop-line.invariant.1,
-      λ t read reached. going_more g.R.Room.places _ t _ _ _ _ _ _ _ _ _ _ _ _ _ read (c.loop-line.invariant.2 t read reached) next.line c.following-number.ensures.following c.in-ok-add-ruling.ensures.added,
+      λ t read reached. going_more g.R.Room.places _ t _ _ _ _ _ _ _ _ _ _ _ _ _ read (c.loop-line.invariant.2 t read reached) next.line c.following-number.ensures.following c.in_ok-add_ruling.ensures.added,
     )
 
 pub following-number-requires : goal.following-number-requires
@@ -27,4 +27,4 @@ loop-line-smaller g c =
     omega (arith, next.moved, next.bound, ap length (next.bytes ∙ c.loop-line.invariant.1))
 
 pub returns : goal.returns
-returns g c = record { added = λ t read reached. going_all g.R.Room.places _ t _ _ _ _ _ _ _ _ (c.loop-line.invariant.2 t read reached) c.in-default.ensures.line }
+returns g c = record { added = λ t read reached. going_all g.R.Room.places _ t _ _ _ _ _ _ _ _ (c.loop-line.invariant.2 t read reached) c.in_default.ensures.line }

@@ -10,7 +10,7 @@ returns-in-Ok g c =
     let input = c.args.input.now in
     let n = c.split-parts.result.text_end in
     let front : n - 0 ≡ n = omega arith in
-    record { printed = input_short g.R.Room.places _ input _ _ _ _ vec_items c.rule-text.result c.in-Ok.ensures.judged c.split-parts.ensures.cut (ap (λ k. take k input) front) (take_rest input c.split-parts.result.log_start) c.rule-text.ensures.printed }
+    record { printed = input_short g.R.Room.places _ input _ _ _ _ vec_items c.rule_text.result c.in-Ok.ensures.judged c.split-parts.ensures.cut (ap (λ k. take k input) front) (take_rest input c.split-parts.result.log_start) c.rule_text.ensures.printed }
 
 pub returns-in-Err : goal.returns-in-Err
-returns-in-Err g c = record { printed = IfOk-weaker c.from-slice.result _ _ (λ v e. too_long c.in-Err.ensures.judged (e.0 ∙ c.long-input-line.ensures.line)) c.from-slice.ensures.made }
+returns-in-Err g c = record { printed = IfOk-weaker c.from_slice.result _ _ (λ v e. too_long c.in-Err.ensures.judged (e.0 ∙ c.long_input_line.ensures.line)) c.from_slice.ensures.made }

@@ -4,19 +4,19 @@ use Rattle.run.proofs.Steps.{view_same}
 use Rattle.run.proofs.Tables.{inside}
 use Rattle.run.proofs.state.Run.admit.Goals as goal
 
-pub returns-in-default : goal.returns-in-default
-returns-in-default g c =
-    let said = c.in-default.ensures in
+pub returns-in_default : goal.returns-in_default
+returns-in_default g c =
+    let said = c.in_default.ensures in
     (inr (_, c.fitting-table.ensures.says, said.says.0), view_same said.says.1 said.remembers)
 
-pub go-in-requires : goal.go-in-requires
-go-in-requires g c =
+pub go_in-requires : goal.go_in-requires
+go_in-requires g c =
     inside c.fitting-table.result c.in-Some.entry.operation c.fitting-table.ensures.long (g.met.R.Room.sound _ _ _ _ c.in-Some.ensures.says.0).1
 
 pub returns : goal.returns
 returns g c =
     let said = c.in-Some.ensures in
-    let gone = c.go-in.ensures in
+    let gone = c.go_in.ensures in
     record {
       allowed = _;
       table = c.fitting-table.ensures.says;

@@ -27,10 +27,10 @@ returns g c =
     let rule : Rule = record { start = m.start; after = m.after; chooses = m.chooses } in
     let v = view m.entries m.memory c.args.self.now in
     let (room, rest, going) = c.loop-entry.invariant in
-    let none = c.in-default.ensures in
+    let none = c.in_default.ensures in
     let long = c.loop-entry.auto.list in
     record {
-      says = ends m.places rule v _ _ _ c.args.operation _ c.loop-entry.n c.loop-entry.list c.in-ok-may-end.ensures c.args.self.now.few c.go-out.ensures going (omega arith) none.0 none.1;
+      says = ends m.places rule v _ _ _ c.args.operation _ c.loop-entry.n c.loop-entry.list c.in_ok-may_end.ensures c.args.self.now.few c.go_out.ensures going (omega arith) none.0 none.1;
       within = omega arith;
       rest = rest;
       keeps = tt;

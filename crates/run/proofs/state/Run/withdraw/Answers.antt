@@ -11,7 +11,7 @@ returns-in-Some g c =
     let rule : Rule = record { start = m.start; after = m.after; chooses = m.chooses } in
     let v = view m.entries m.memory c.args.self.now in
     let said = c.in-Some.ensures in
-    record { says = withdraws m.places rule v _ _ _ _ _ said.says said.remembers c.count-withdrawn.ensures; keeps = tt }
+    record { says = withdraws m.places rule v _ _ _ _ _ said.says said.remembers c.count_withdrawn.ensures; keeps = tt }
 
 pub returns-in-None : goal.returns-in-None
 returns-in-None g c =

@@ -1,7 +1,7 @@
 ghost use Rattle.std.specs.Prelude.{◌≡◌, ◌+◌, ◌*◌, ◌^◌, ◌<◌, ◌≤◌, true, length, take, Decides, slice_index};
-ghost use Rattle.std.specs.Str.Parse.{digits_value as decimalValue};
+ghost use Rattle.std.specs.Str.Parse.{digits_value as decimal_value};
 ghost use Rattle.std.specs.Char.{digit_value};
-ghost use Rattle.tokens.specs.Tokens.{byte, digit as digitByte, in_name};
+ghost use Rattle.tokens.specs.Tokens.{byte, digit as digit_byte, in_name};
 ghost use Rattle.lines.specs.Lines.{IsName, IsTicket};
 ghost use Rattle.lines.specs.Reads.{Longest};
 
@@ -32,7 +32,7 @@ pub fn name_len(rest: &[u8]) -> usize
 
 // Whether a ticket of n digits goes on with the byte behind them.
 fn ticket_goes_on(rest: &[u8], n: usize) -> bool
-    ensures more { Decides result ((n < 7) × (n < length rest.now) × (byte (slice_index rest.now n) ≡ digitByte)) }
+    ensures more { Decides result ((n < 7) × (n < length rest.now) × (byte (slice_index rest.now n) ≡ digit_byte)) }
 {
     n < 7 && n < rest.len() && is_digit(rest[n])
 }
@@ -46,7 +46,7 @@ pub struct Digits {
 
 // The number with one more digit behind it.
 fn with_digit(number: u32, b: u8) -> u32
-    requires { (number < 10 ^ 6) × (byte b ≡ digitByte) }
+    requires { (number < 10 ^ 6) × (byte b ≡ digit_byte) }
     ensures value { result ≡ number * 10 + digit_value b }
 {
     number * 10 + u32::from(digit_value(b))
@@ -55,7 +55,7 @@ fn with_digit(number: u32, b: u8) -> u32
 // The digits of the ticket that the rest begins with, none if it begins with none.
 pub fn ticket_digits(rest: &[u8]) -> Digits
     ensures longest { Longest IsTicket rest.now result.count }
-    ensures number { result.number ≡ decimalValue 10 (take result.count rest.now) }
+    ensures number { result.number ≡ decimal_value 10 (take result.count rest.now) }
     ensures bound { result.count ≤ length rest.now }
     ensures short { result.count ≤ 7 }
     ensures small { result.number ≤ 9999999 }

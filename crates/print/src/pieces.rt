@@ -1,7 +1,7 @@
 ghost use Rattle.std.specs.Prelude.{[], ◌∷◌, ◌++◌, codes, decimal};
 ghost use Rattle.page.specs.Written.{Written};
 ghost use Rattle.doors.specs.Told.{door_of};
-ghost use Rattle.print.specs.Lines.{door_bytes, passage as passageOf};
+ghost use Rattle.print.specs.Lines.{door_bytes, passage as passage_of};
 
 use doors::Door;
 use page::{put, put_number};
@@ -34,7 +34,7 @@ fn put_door(part: &mut [u8], door: Door) -> usize
 
 // Writes the two doors of an occurrence, and ends the line.
 pub fn put_passage(part: &mut [u8], left: Door, right: Door) -> usize
-    ensures written { Written (passageOf (door_of left) (door_of right)) part.old part.new result }
+    ensures written { Written (passage_of (door_of left) (door_of right)) part.old part.new result }
 {
     let at = put(part, b" in ");
     let out = at + put_door(&mut part[at..], left);

@@ -1,7 +1,7 @@
 -- Where a reading begins, and what it answers in the end.
 use Rattle.std.proofs.Common.{◌≡◌, ℕ, ◌<◌, ◌≤◌, List, [], ◌∷◌, length, drop, Some, None, Ok, Err, Option, Result, sym, refl, ap, ◌∙◌, subst, arith}
 use Rattle.table.specs.declared.Table.{Table}
-use Rattle.table.specs.Contents.{contents, allPlaces}
+use Rattle.table.specs.Contents.{contents, all_places}
 use Rattle.paths.specs.Grammar.{Terminal, Text, yield_text}
 use Rattle.paths.specs.Sizes.{how_many, paths}
 use Rattle.tokens.specs.declared.Token.{Token}
@@ -97,10 +97,10 @@ module _ (text : List ℕ) (r : Reading) (ts : Table Token) (ns : Table First) (
       }
 
 -- ---- the end
-pub rest_same : {T : Type 0} (t t0 t' : Table T) → allPlaces t0 ≡ allPlaces t → RestKept t0 t' → RestSame t t'
+pub rest_same : {T : Type 0} (t t0 t' : Table T) → all_places t0 ≡ all_places t → RestKept t0 t' → RestSame t t'
 rest_same t t0 t' e k = record { places = k.places ∙ ap length e; rest = k.rest ∙ ap (drop (length (contents t'))) e }
 
-pub enough_still : (ts ts0 : Table Token) (ns ns0 : Table First) → allPlaces ts0 ≡ allPlaces ts → allPlaces ns0 ≡ allPlaces ns → Enough ts ns → Enough ts0 ns0
+pub enough_still : (ts ts0 : Table Token) (ns ns0 : Table First) → all_places ts0 ≡ all_places ts → all_places ns0 ≡ all_places ns → Enough ts ns → Enough ts0 ns0
 enough_still ts ts0 ns ns0 e f n = (let l = ap length e in let k = n.0 in omega arith, let l = ap length f in let k = n.1 in omega arith)
 
 answer_fault : (text : List ℕ) (ts ts' : Table Token) (ns ns' : Table First) (f : ReadFault) → Enough ts ns → Tells text (contents ts') f →

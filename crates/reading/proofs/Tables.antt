@@ -2,7 +2,7 @@
 use Rattle.std.proofs.Common.{◌≡◌, ℕ, ◌+◌, ◌-◌, ◌<◌, ◌≤◌, Bool, true, cond, ltb, List, [], ◌∷◌, ◌++◌, length, drop, set, sym, refl, ap, ◌∙◌, arith, length-append, length-set, drop-set-lt, lt-ltb}
 use Rattle.std.proofs.lemmas.List.{drop-drop}
 use Rattle.table.specs.declared.Table.{Table}
-use Rattle.table.specs.Contents.{contents, allPlaces}
+use Rattle.table.specs.Contents.{contents, all_places}
 use Rattle.reading.specs.State.{RestKept}
 
 module _ {T : Type 0} where
@@ -19,7 +19,7 @@ module _ {T : Type 0} where
   kept_both t u v h k = record {
     places = k.places ∙ h.places;
     grows = (let a = h.grows in let b = k.grows in omega arith);
-    rest = k.rest ∙ further (allPlaces u) (allPlaces t) (length (contents u)) (length (contents v)) k.grows h.rest;
+    rest = k.rest ∙ further (all_places u) (all_places t) (length (contents u)) (length (contents v)) k.grows h.rest;
   }
 
   -- one record more
@@ -27,19 +27,19 @@ module _ {T : Type 0} where
     pub records : contents t' ≡ contents t ++ (x ∷ [])
     pub kept : RestKept t t'
 
-  pub added : (t t' : Table T) (x : T) (b : Bool) → length (contents t) < length (allPlaces t) → b ≡ ltb (length (contents t)) (length (allPlaces t)) →
-      contents t' ≡ cond b (contents t ++ (x ∷ [])) (contents t) → allPlaces t' ≡ cond b (set (allPlaces t) (length (contents t)) x) (allPlaces t) → Added t t' x
+  pub added : (t t' : Table T) (x : T) (b : Bool) → length (contents t) < length (all_places t) → b ≡ ltb (length (contents t)) (length (all_places t)) →
+      contents t' ≡ cond b (contents t ++ (x ∷ [])) (contents t) → all_places t' ≡ cond b (set (all_places t) (length (contents t)) x) (all_places t) → Added t t' x
   added t t' x b room full records places =
       let yes : b ≡ true = full ∙ lt-ltb _ _ room in
       let r : contents t' ≡ contents t ++ (x ∷ []) = records ∙ ap (λ (c : Bool). cond c (contents t ++ (x ∷ [])) (contents t)) yes in
-      let p : allPlaces t' ≡ set (allPlaces t) (length (contents t)) x = places ∙ ap (λ (c : Bool). cond c (set (allPlaces t) (length (contents t)) x) (allPlaces t)) yes in
+      let p : all_places t' ≡ set (all_places t) (length (contents t)) x = places ∙ ap (λ (c : Bool). cond c (set (all_places t) (length (contents t)) x) (all_places t)) yes in
       let l = ap length r in
       let m = length-append (contents t) (x ∷ []) in
       record {
         records = r;
         kept = record {
-          places = ap length p ∙ length-set (allPlaces t) (length (contents t)) x;
+          places = ap length p ∙ length-set (all_places t) (length (contents t)) x;
           grows = omega arith;
-          rest = ap (drop (length (contents t'))) p ∙ drop-set-lt (length (contents t')) (allPlaces t) (length (contents t)) x (omega arith);
+          rest = ap (drop (length (contents t'))) p ∙ drop-set-lt (length (contents t')) (all_places t) (length (contents t)) x (omega arith);
         };
       }

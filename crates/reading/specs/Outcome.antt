@@ -1,7 +1,7 @@
 -- What reading a text answers, and what the tables then hold.
 use Rattle.std.specs.Prelude.{◌≡◌, ℕ, ◌<◌, ◌≤◌, Bool, true, false, ◌⊎◌, List, length, drop, Some, Ok, Err, Result}
 use Rattle.table.specs.declared.Table.{Table}
-use Rattle.table.specs.Contents.{contents, allPlaces}
+use Rattle.table.specs.Contents.{contents, all_places}
 use Rattle.paths.specs.Grammar.{Text}
 use Rattle.paths.specs.Texts.{names_of_text}
 use Rattle.tokens.specs.declared.Token.{Token}
@@ -17,16 +17,16 @@ use Rattle.reading.specs.Faults.{fault_number, fault_place}
 
 -- both tables have places enough for every text: 1,088 for tokens, 64 for names
 abbrev pub Enough : Table Token → Table Name → Type 0
-Enough ts ns = (1088 ≤ length (allPlaces ts)) × (64 ≤ length (allPlaces ns))
+Enough ts ns = (1088 ≤ length (all_places ts)) × (64 ≤ length (all_places ns))
 
 -- a table has fewer
 abbrev pub Lacking : Table Token → Table Name → Type 0
-Lacking ts ns = (length (allPlaces ts) < 1088) ⊎ (length (allPlaces ns) < 64)
+Lacking ts ns = (length (all_places ts) < 1088) ⊎ (length (all_places ns) < 64)
 
 -- the table has as many places as before, and those behind the last record hold what they held
 pub record RestSame {T : Type 0} (t t' : Table T) : Type 0 where
-  pub places : length (allPlaces t') ≡ length (allPlaces t)
-  pub rest : drop (length (contents t')) (allPlaces t') ≡ drop (length (contents t')) (allPlaces t)
+  pub places : length (all_places t') ≡ length (all_places t)
+  pub rest : drop (length (contents t')) (all_places t') ≡ drop (length (contents t')) (all_places t)
 
 -- the fault is the text's first, behind the tokens before
 abbrev pub Tells : List ℕ → List Token → ReadFault → Type 0

@@ -1,7 +1,7 @@
 -- Where a reading stands.
 use Rattle.std.specs.Prelude.{◌≡◌, ℕ, ◌+◌, ◌<◌, ◌≤◌, Bool, true, false, ◌&&◌, ◌≢◌, List, [], ◌∷◌, ◌++◌, length, drop, replicate, Some, None, Ok, Err, Option, Result, nat_lt, slice_index_or}
 use Rattle.table.specs.declared.Table.{Table}
-use Rattle.table.specs.Contents.{contents, allPlaces}
+use Rattle.table.specs.Contents.{contents, all_places}
 use Rattle.paths.specs.Grammar.{Terminal, semicolon, comma, round_open, round_close, brace_open, brace_close, path, end, word}
 use Rattle.paths.specs.Words.{among}
 use Rattle.paths.specs.Sizes
@@ -28,9 +28,9 @@ use Rattle.reading.specs.Outcome.{Tells}
 
 -- records were only added, and the places behind the last record hold what they held
 pub record RestKept {T : Type 0} (t t' : Table T) : Type 0 where
-  pub places : length (allPlaces t') ≡ length (allPlaces t)
+  pub places : length (all_places t') ≡ length (all_places t)
   pub grows : length (contents t) ≤ length (contents t')
-  pub rest : drop (length (contents t')) (allPlaces t') ≡ drop (length (contents t')) (allPlaces t)
+  pub rest : drop (length (contents t')) (all_places t') ≡ drop (length (contents t')) (all_places t)
 
 -- ---- counting
 -- one path more
@@ -221,8 +221,8 @@ pub record Ready (d : Desk) : Type 0 where
   pub kept : Kept (row d)
   pub few : length (taken d) ≤ 1056
   pub listed : contents d.names ≡ firsts (bytes d) (taken d)
-  pub token_places : 1088 ≤ length (allPlaces d.tokens)
-  pub name_places : 64 ≤ length (allPlaces d.names)
+  pub token_places : 1088 ≤ length (all_places d.tokens)
+  pub name_places : 64 ≤ length (all_places d.names)
   pub counted : Counted d.reading.counts (row d)
   pub own : Own d.reading.own (own_from [] (row d))
 

@@ -1,5 +1,5 @@
 ghost use Rattle.std.specs.Prelude.{◌≡◌, ◌+◌, ◌<◌, ◌≤◌, false, ◌&&◌, [], ◌∷◌, ◌++◌, length, if◌then◌else◌, nat_eq, nat_lt, slice_index_or};
-ghost use Rattle.table.specs.Contents.{contents, allPlaces};
+ghost use Rattle.table.specs.Contents.{contents, all_places};
 ghost use Rattle.rules.specs.Names.{first_of};
 ghost use Rattle.reading.specs.State.{RestKept, PathOpened, BracketOpened, BracketClosed, NameTold, NoneCounted};
 
@@ -88,7 +88,7 @@ pub fn marked(own: &[bool; 64], number: usize) -> bool
 
 // Notes a name that is new: its number is the count of names.
 pub fn note(names: &mut Table<Name>, number: usize, token: Token)
-    requires { number < length (allPlaces names.old) }
+    requires { number < length (all_places names.old) }
     ensures records { contents names.new ≡ (if nat_eq number (length (contents names.old)) then contents names.old ++ (first_of token ∷ []) else contents names.old) }
     ensures rest { RestKept names.old names.new }
 {

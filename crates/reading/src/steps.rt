@@ -1,5 +1,5 @@
 ghost use Rattle.std.specs.Prelude.{◌≡◌, ◌+◌, ◌<◌, ◌≤◌, length};
-ghost use Rattle.table.specs.Contents.{contents, allPlaces};
+ghost use Rattle.table.specs.Contents.{contents, all_places};
 ghost use Rattle.tokens.specs.declared.Kind.TheVariants.{Name as NameKind};
 ghost use Rattle.reading.specs.State.{Countable, CountedToken, known_as, PathCounted, Looked, Looks, IsAhead, refused_by, together, Ready, Fits, Advanced};
 
@@ -11,7 +11,7 @@ use tokens::{Kind, Name, Token, number, part};
 impl<'a> Reading<'a> {
     // Counts a name and notes it if it is new, or tells the limit that it passes.
     fn count_name(&mut self, names: &mut Table<Name>, token: Token) -> Result<(), Limit>
-        requires { (token.kind ≡ NameKind) × (self.old.counts.occurrences ≤ 256) × (64 ≤ length (allPlaces names.old)) }
+        requires { (token.kind ≡ NameKind) × (self.old.counts.occurrences ≤ 256) × (64 ≤ length (all_places names.old)) }
         ensures counted { CountedToken (known_as self.old.text.now (contents names.old) token) token self.old names.old self.new names.new result }
     {
         let n = number(self.text, names, part(self.text, token.place, token.len));
@@ -36,7 +36,7 @@ impl<'a> Reading<'a> {
 
     // Counts the token that follows, or tells the limit that it passes.
     fn count(&mut self, names: &mut Table<Name>, token: Token) -> Result<(), Limit>
-        requires { Countable self.old.counts (known_as self.old.text.now (contents names.old) token) × (64 ≤ length (allPlaces names.old)) }
+        requires { Countable self.old.counts (known_as self.old.text.now (contents names.old) token) × (64 ≤ length (all_places names.old)) }
         ensures counted { CountedToken (known_as self.old.text.now (contents names.old) token) token self.old names.old self.new names.new result }
     {
         match token.kind {

@@ -1,5 +1,5 @@
 ghost use Rattle.std.specs.Prelude.{◌≡◌, ◌<◌, [], length};
-ghost use Rattle.table.specs.Contents.{contents, allPlaces};
+ghost use Rattle.table.specs.Contents.{contents, all_places};
 ghost use Rattle.reading.specs.Outcome.{Answered, RestSame, Measured};
 ghost use Rattle.reading.specs.State.{Unread, Begun};
 
@@ -18,8 +18,8 @@ fn enough_places(tokens: &Table<Token>, names: &Table<Name>) -> bool
 fn empty(tokens: &mut Table<Token>, names: &mut Table<Name>)
     ensures tokens { contents tokens.new ≡ [] }
     ensures names { contents names.new ≡ [] }
-    ensures token_places { allPlaces tokens.new ≡ allPlaces tokens.old }
-    ensures name_places { allPlaces names.new ≡ allPlaces names.old }
+    ensures token_places { all_places tokens.new ≡ all_places tokens.old }
+    ensures name_places { all_places names.new ≡ all_places names.old }
 {
     tokens.clear();
     names.clear();

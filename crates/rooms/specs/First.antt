@@ -10,12 +10,12 @@ pub record First (first : Entry → Entry → Bool) (xs : List Entry) (allowed :
   pub before : (y : Entry) → In y xs → allowed y.operation ≡ true → first x y ≡ true
 
 -- by age, the smaller ticket goes first
-abbrev pub byAge : Entry → Entry → Bool
-byAge x y = nat_le x.ticket y.ticket
+abbrev pub by_age : Entry → Entry → Bool
+by_age x y = nat_le x.ticket y.ticket
 
 -- by rank, the greater rank goes first, among equals the smaller ticket
-abbrev pub byRank : Entry → Entry → Bool
-byRank x y = cond (x.rank == y.rank) (byAge x y) (nat_lt y.rank x.rank)
+abbrev pub by_rank : Entry → Entry → Bool
+by_rank x y = cond (x.rank == y.rank) (by_age x y) (nat_lt y.rank x.rank)
 
 -- the first allowed of the first n entries of xs stands at a place, or none of them is allowed
 abbrev pub Best : (Entry → Entry → Bool) → List Entry → (ℕ → Bool) → ℕ → Option ℕ → Type 0

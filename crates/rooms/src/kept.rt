@@ -60,8 +60,8 @@ impl<O: Order> Kept<O> {
 
     // The place of the first allowed entry of the first i + 1, where best is that of the first i.
     fn better(&self, allowed: &[bool; 64], best: Option<usize>, i: usize) -> Option<usize>
-        requires { (i < self.now.places.used) × (Best (first (memory self.now.order)) self.now.places.items (allows allowed.now) i best) }
-        ensures says { Best (first (memory self.now.order)) self.now.places.items (allows allowed.now) (i + 1) result }
+        requires { (i < self.now.places.used) × (Best (O.first (O.memory self.now.order)) self.now.places.items (allows allowed.now) i best) }
+        ensures says { Best (O.first (O.memory self.now.order)) self.now.places.items (allows allowed.now) (i + 1) result }
     {
         let e = self.places.items[i];
         if !is_allowed(allowed, e.operation) {
@@ -79,7 +79,7 @@ impl<O: Order> Kept<O> {
 
     // The place of the first allowed entry, by place.
     fn best(&self, allowed: &[bool; 64]) -> Option<usize>
-        ensures says { Best (first (memory self.now.order)) self.now.places.items (allows allowed.now) self.now.places.used result }
+        ensures says { Best (O.first (O.memory self.now.order)) self.now.places.items (allows allowed.now) self.now.places.used result }
     {
         let mut best = None;
         for i in 0..self.places.used {
@@ -90,7 +90,7 @@ impl<O: Order> Kept<O> {
 
     // The place of the entry that the rule of choice names.
     fn choice(&self, allowed: &[bool; 64]) -> Option<usize>
-        ensures says { Chosen (first (memory self.now.order)) self.now.places (allows allowed.now) result }
+        ensures says { Chosen (O.first (O.memory self.now.order)) self.now.places (allows allowed.now) result }
     {
         self.best(allowed)
     }

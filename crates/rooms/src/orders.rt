@@ -1,6 +1,6 @@
 // The orders by age and by rank, which remember nothing.
 ghost use Rattle.std.specs.Prelude.{◌≡◌};
-ghost use Rattle.rooms.specs.First.{byAge, byRank};
+ghost use Rattle.rooms.specs.First.{by_age, by_rank};
 ghost use Rattle.std.proofs.Common.{rules};
 
 use crate::entry::Entry;
@@ -8,7 +8,7 @@ use crate::order::Order;
 
 // Whether x has waited at least as long as y.
 fn is_older(x: Entry, y: Entry) -> bool
-    ensures says { result ≡ byAge x y }
+    ensures says { result ≡ by_age x y }
 {
     x.ticket <= y.ticket
 }
@@ -24,7 +24,7 @@ impl Order for Age {
 
     ghost after = { λ _ _. 0 };
 
-    ghost first = { λ _. byAge };
+    ghost first = { λ _. by_age };
 
     ghost total = { Prim.search rules };
 
@@ -54,7 +54,7 @@ impl Order for Rank {
 
     ghost after = { λ _ _. 0 };
 
-    ghost first = { λ _. byRank };
+    ghost first = { λ _. by_rank };
 
     ghost total = { Prim.search rules };
 

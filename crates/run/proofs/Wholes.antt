@@ -3,7 +3,7 @@ use Rattle.std.proofs.Common.{◌≡◌, ℕ, ◌≤◌, true, leb, List, [], le
 use Rattle.std.proofs.lemmas.Bool.{and_parts, leb-true}
 use Rattle.paths.specs.Grammar.{Text}
 use Rattle.table.specs.declared.Table.{Table}
-use Rattle.table.specs.Contents.{allPlaces}
+use Rattle.table.specs.Contents.{all_places}
 use Rattle.tokens.specs.declared.Token.{Token}
 use Rattle.tokens.specs.declared.Name.{Name}
 use Rattle.rules.specs.Rules.{Within}
@@ -27,8 +27,8 @@ use Rattle.run.specs.Whole.{tables, Replayed}
 use Rattle.run.proofs.Unique.{One, one_run}
 
 -- a translation that was not refused had a table with places enough
-pub places_enough : (ts : Table Token) (ns : Table Name) (os : Table Occurrence) → true ≡ enough ts ns os → 256 ≤ length (allPlaces os)
-places_enough ts ns os e = leb-true 256 _ (and_parts (leb 64 (length (allPlaces ns))) (leb 256 (length (allPlaces os))) (and_parts (leb 1088 (length (allPlaces ts))) _ (sym e)).1).1
+pub places_enough : (ts : Table Token) (ns : Table Name) (os : Table Occurrence) → true ≡ enough ts ns os → 256 ≤ length (all_places os)
+places_enough ts ns os e = leb-true 256 _ (and_parts (leb 64 (length (all_places ns))) (leb 256 (length (all_places os))) (and_parts (leb 1088 (length (all_places ts))) _ (sym e)).1).1
 
 module _ {R : Type 0} (places : ℕ) (rule : Rule) (one : One rule) (entries : R → List Entry) (text : List ℕ) (ts : Table Token) (ns : Table Name) (os : Table Occurrence) where
   pub replayed : (rd : Read) (tr : Translated) (v w : View) (cs : List Call) (old new : List Answer) (before after : List LetIn) (r : Closed R) →

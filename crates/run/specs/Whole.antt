@@ -1,7 +1,7 @@
 -- What a replay answers: the judgement of the text, and the law of its run.
 use Rattle.std.specs.Prelude.{◌≡◌, ℕ, ◌<◌, ◌≤◌, ◌⊎◌, List, length, Ok, Err, Result}
 use Rattle.table.specs.declared.Table.{Table}
-use Rattle.table.specs.Contents.{contents, allPlaces}
+use Rattle.table.specs.Contents.{contents, all_places}
 use Rattle.paths.specs.Grammar.{Text}
 use Rattle.paths.specs.Texts.{text_doors}
 use Rattle.tokens.specs.declared.Token.{Token}
@@ -44,7 +44,7 @@ pub record Untranslated (text : List ℕ) (now then : Tables) : Type 0 where
   pub tree : Text
   pub filled : Filled text then.tokens then.names tree
   pub short : length text ≤ 16384
-  pub lacking : length (allPlaces now.occurrences) < 256
+  pub lacking : length (all_places now.occurrences) < 256
 
 -- why a replay refuses: the text's first fault, or too few places in a table
 abbrev pub ReplayRefused : List ℕ → Tables → Tables → ReadFault → Type 0
@@ -56,7 +56,7 @@ ReplayRefused text now then TooFewPlaces =
 -- a replay answers the run's totals and its room, or refuses and leaves the answers, the list and the occurrences
 abbrev pub ReplaySays : {R : Type 0} → ℕ → RuleOfChoice → (R → List Entry) → List ℕ → Tables → Tables → List Call → List Answer → List Answer → List LetIn → List LetIn → Result (Closed R) ReadFault → Type 0
 ReplaySays places rule entries text now then cs old new before after (Ok r) =
-    Enough now.tokens now.names × (256 ≤ length (allPlaces now.occurrences)) × Replayed places rule entries text then cs old new before after r
+    Enough now.tokens now.names × (256 ≤ length (all_places now.occurrences)) × Replayed places rule entries text then cs old new before after r
 ReplaySays places rule entries text now then cs old new before after (Err f) =
     ReplayRefused text now then f × (then.occurrences ≡ now.occurrences) × (new ≡ old) × (after ≡ before)
 

@@ -1,5 +1,5 @@
 ghost use Rattle.std.specs.Prelude.{◌≡◌, ◌+◌, ◌<◌, ◌≤◌, [], ◌∷◌, ◌++◌, length, is_ok, if◌then◌else◌, MatchOption, nat_lt, slice_index_or, slice_set};
-ghost use Rattle.table.specs.Contents.{allPlaces, contents};
+ghost use Rattle.table.specs.Contents.{all_places, contents};
 
 use super::{Full, Rows, Table};
 
@@ -33,7 +33,7 @@ impl<'a, T: Copy> Table<'a, T> {
     // A table with no record; the places hold what they held.
     pub fn new(places: &'a mut [T]) -> Table<'a, T>
         ensures empty { contents result ≡ [] }
-        ensures places { allPlaces result ≡ places.old }
+        ensures places { all_places result ≡ places.old }
     {
         Table {
             rows: Rows { places },
@@ -51,7 +51,7 @@ impl<'a, T: Copy> Table<'a, T> {
 
     // How many places there are.
     pub fn places(&self) -> usize
-        ensures places { result ≡ length (allPlaces self.now) }
+        ensures places { result ≡ length (all_places self.now) }
     {
         let all = self.rows.places.len();
         all
@@ -60,7 +60,7 @@ impl<'a, T: Copy> Table<'a, T> {
     // Forgets the records and touches no place.
     pub fn clear(&mut self)
         ensures empty { contents self.new ≡ [] }
-        ensures places { allPlaces self.new ≡ allPlaces self.old }
+        ensures places { all_places self.new ≡ all_places self.old }
     {
         self.count = 0;
     }
@@ -87,9 +87,9 @@ impl<'a, T: Copy> Table<'a, T> {
 
     // Adds a record at the end, where there is a place; `count` is the new count.
     fn push(&mut self, item: T, count: usize)
-        requires { (count ≡ length (contents self.old) + 1) × (count ≤ length (allPlaces self.old)) }
+        requires { (count ≡ length (contents self.old) + 1) × (count ≤ length (all_places self.old)) }
         ensures records { contents self.new ≡ contents self.old ++ item ∷ [] }
-        ensures places { allPlaces self.new ≡ slice_set (allPlaces self.old) (length (contents self.old)) item }
+        ensures places { all_places self.new ≡ slice_set (all_places self.old) (length (contents self.old)) item }
     {
         self.rows.write(self.count, item);
         self.count = count;
@@ -97,9 +97,9 @@ impl<'a, T: Copy> Table<'a, T> {
 
     // Adds a record at the end; full exactly when the count equals the places. No other place is touched.
     pub fn add(&mut self, item: T) -> Result<(), Full>
-        ensures full { is_ok result ≡ nat_lt (length (contents self.old)) (length (allPlaces self.old)) }
+        ensures full { is_ok result ≡ nat_lt (length (contents self.old)) (length (all_places self.old)) }
         ensures records { contents self.new ≡ (if is_ok result then contents self.old ++ item ∷ [] else contents self.old) }
-        ensures places { allPlaces self.new ≡ (if is_ok result then slice_set (allPlaces self.old) (length (contents self.old)) item else allPlaces self.old) }
+        ensures places { all_places self.new ≡ (if is_ok result then slice_set (all_places self.old) (length (contents self.old)) item else all_places self.old) }
     {
         let count = self.count();
         if count >= self.places() {

@@ -1,6 +1,6 @@
 ghost use Rattle.std.specs.Prelude.{◌≡◌, ℕ, ◌+◌, ◌-◌, ◌<◌, ◌≤◌, length, drop, Decides};
 ghost use Rattle.std.specs.List.{prefix_len};
-ghost use Rattle.tokens.specs.Tokens.{byte, blank as blankByte, in_name, word_kind};
+ghost use Rattle.tokens.specs.Tokens.{byte, blank as blank_byte, in_name, word_kind};
 ghost use Rattle.tokens.specs.Reader.{next, next_word, Found, Inside, Moved, Solid, class_of};
 
 use super::class::Class;
@@ -25,7 +25,7 @@ fn class(b: u8) -> Class
 }
 
 fn is_blank(b: u8) -> bool
-    ensures blank { Decides result (byte b ≡ blankByte) }
+    ensures blank { Decides result (byte b ≡ blank_byte) }
 {
     matches!(class(b), Class::Blank)
 }

@@ -3,7 +3,7 @@ use Rattle.std.proofs.Common.{◌≡◌, ℕ, ◌+◌, ◌-◌, ◌<◌, ◌≤�
 use lib.ListN.{length-map}
 use Rattle.std.proofs.lemmas.List.{take_all}
 use Rattle.table.specs.declared.Table.{Table}
-use Rattle.table.specs.Contents.{contents, allPlaces}
+use Rattle.table.specs.Contents.{contents, all_places}
 use Rattle.paths.specs.Grammar.{Terminal, semicolon, comma, round_open, round_close, brace_open, brace_close, path, end, word}
 use Rattle.paths.specs.Grammar.{Text, one, more, Sequence, last, ◌⨟◌, only, ◌or◌, name, round, brace}
 use Rattle.paths.specs.Doors.{plain, with_counter, Occurrence as TheOccurrence, semaphores_in_sequence, semaphores_in_selection, semaphores_in_element, counters_in_sequence, counters_in_selection, counters_in_element, path_doors}
@@ -33,18 +33,18 @@ pub extends_then : (t u v : Table Occurrence) → Extends t u → Extends u v �
 extends_then t u v a b = record {
   places = b.places ∙ a.places;
   more = omega (arith, a.more, b.more);
-  beyond = b.beyond ∙ beyond_later (length (contents u)) (length (contents v)) (allPlaces u) (allPlaces t) b.more a.beyond;
+  beyond = b.beyond ∙ beyond_later (length (contents u)) (length (contents v)) (all_places u) (all_places t) b.more a.beyond;
 }
 
 added_then : (t u v : Table Occurrence) (os ps : List TheOccurrence) → Extends t u → Added t os u → Added u ps v → Added t (os ++ ps) v
 added_then t u v os ps k a b =
-    let n = length (allPlaces t) in
+    let n = length (all_places t) in
     b ∙ ap (λ m. take m (all_told (contents u) ++ ps)) k.places ∙ ap (λ l. take n (l ++ ps)) a ∙ take_twice n (all_told (contents t) ++ os) ps
     ∙ ap (take n) (append_assoc (all_told (contents t)) os ps)
 
 added_none : (t : Table Occurrence) → Added t [] t
 added_none t =
-    let n = length (allPlaces t) in
+    let n = length (all_places t) in
     let fits : length (all_told (contents t) ++ []) ≤ n = simp (append-nil, length-map, length-take) (omega arith) in
     sym (take_all n (all_told (contents t) ++ []) fits ∙ append-nil (all_told (contents t)))
 

@@ -3,7 +3,7 @@ use Rattle.std.proofs.Common.{◌≡◌, ℕ, ◌≤◌, true, ltb, List, [], �
 use Rattle.std.proofs.lemmas.List.{take_all}
 use Rattle.std.proofs.lemmas.Bool.Decides.{nat_tests}
 use Rattle.table.specs.declared.Table.{Table}
-use Rattle.table.specs.Contents.{contents, allPlaces}
+use Rattle.table.specs.Contents.{contents, all_places}
 use Rattle.paths.specs.Grammar.{Text, yield_text}
 use Rattle.paths.specs.Texts.{text_doors, names_of_text}
 use Rattle.paths.specs.Sizes.{how_many, paths, semaphores, counters}
@@ -25,7 +25,7 @@ use Rattle.translation.specs.Trees.{spell_text, first, PathsTold}
 use Rattle.translation.specs.Translation.{enough, Filled, Translates}
 use Rattle.translation.proofs.Spelled.{spelled_text}
 
-pub enough_room : (T : Table Token) (names : Table Name) (out : Table Occurrence) → true ≡ enough T names out → 256 ≤ length (allPlaces out)
+pub enough_room : (T : Table Token) (names : Table Name) (out : Table Occurrence) → true ≡ enough T names out → 256 ≤ length (all_places out)
 enough_room T names out e = grind (arith, nat_tests)
 
 -- the different names of a derivation are as many as the first occurrences
@@ -39,7 +39,7 @@ module _ (text : List ℕ) (T : Table Token) (names : Table Name) (t : Text) (f 
       let same : row (source text T names) ≡ terminals text (tokens text) = λ i. map (λ (x : Token). terminal_of x.kind (number_of text (f.names_are i) (spelling text x))) (f.tokens_are i) in
       same ∙ sym f.derives.yields ∙ spelled_text t
 
-  pub translates : (r : Translated) (empty after : Table Occurrence) → contents empty ≡ [] → 256 ≤ length (allPlaces empty) → PathsTold (source text T names) first 0 r empty after → Translates t r after
+  pub translates : (r : Translated) (empty after : Table Occurrence) → contents empty ≡ [] → 256 ≤ length (all_places empty) → PathsTold (source text T names) first 0 r empty after → Translates t r after
   translates r empty after none room told =
       let many = limits_count t f.within in
       let few = doors_are_few t in
@@ -50,7 +50,7 @@ module _ (text : List ℕ) (T : Table Token) (names : Table Name) (t : Text) (f 
       let count = ap length f.names_are ∙ sym (many_names text t f.derives) in
       let limit = f.within.names in
       let o = told.text t 0 0 0 (omega arith) refl refl refl row_spelled (omega arith) (omega arith) (omega arith) f.within.depth in
-      let n = length (allPlaces empty) in
+      let n = length (all_places empty) in
       let fits : length (text_doors t 0 0 0) ≤ n = omega (arith, few.occurrences) in
       record {
         doors = o.added ∙ ap (λ l. take n (all_told l ++ text_doors t 0 0 0)) none ∙ take_all n (text_doors t 0 0 0) fits;

@@ -1,7 +1,7 @@
 -- The tables of a text as rows, and what the steps of the translation do to them.
 use Rattle.std.specs.Prelude.{◌≡◌, ℕ, ◌+◌, ◌<◌, ◌≤◌, cond, List, [], ◌∷◌, ◌++◌, map, length, take, drop, nat_lt}
 use Rattle.table.specs.declared.Table.{Table}
-use Rattle.table.specs.Contents.{contents, allPlaces}
+use Rattle.table.specs.Contents.{contents, all_places}
 use Rattle.paths.specs.Doors.{Occurrence as TheOccurrence}
 use Rattle.paths.specs.Grammar.{Terminal, semicolon, comma, round_open, round_close, brace_open, brace_close, path as path_word, end, word}
 use Rattle.tokens.specs.declared.Kind.{Kind}
@@ -81,13 +81,13 @@ pub record Past (tokens : List Token) (p r : Place) : Type 0 where
 
 -- records were at most added: the places are as many, and those behind the count hold what they held
 pub record Extends (before after : Table Occurrence) : Type 0 where
-  pub places : length (allPlaces after) ≡ length (allPlaces before)
+  pub places : length (all_places after) ≡ length (all_places before)
   pub more : length (contents before) ≤ length (contents after)
-  pub beyond : drop (length (contents after)) (allPlaces after) ≡ drop (length (contents after)) (allPlaces before)
+  pub beyond : drop (length (contents after)) (all_places after) ≡ drop (length (contents after)) (all_places before)
 
 -- the occurrences os were added at the end, as far as the places reach
 abbrev pub Added : Table Occurrence → List TheOccurrence → Table Occurrence → Type 0
-Added before os after = all_told (contents after) ≡ take (length (allPlaces before)) (all_told (contents before) ++ os)
+Added before os after = all_told (contents after) ≡ take (length (all_places before)) (all_told (contents before) ++ os)
 
 -- the next number; 256 says that all are taken
 abbrev pub later : ℕ → ℕ

@@ -1,7 +1,7 @@
 -- What a translation answers, and what it leaves in the table of occurrences.
 use Rattle.std.specs.Prelude.{◌≡◌, ℕ, Bool, ◌&&◌, List, length, drop, Ok, Err, Result, nat_le, nat_lt}
 use Rattle.table.specs.declared.Table.{Table}
-use Rattle.table.specs.Contents.{contents, allPlaces}
+use Rattle.table.specs.Contents.{contents, all_places}
 use Rattle.paths.specs.Grammar.{Text, yield_text}
 use Rattle.paths.specs.Words.{among}
 use Rattle.paths.specs.Texts.{text_doors, names_of_text}
@@ -24,7 +24,7 @@ refusal_number e = 23
 
 -- whether the tables have the places that are stated for them
 abbrev pub enough : Table Token → Table Name → Table Occurrence → Bool
-enough token_table name_table occurrence_table = nat_le 1088 (length (allPlaces token_table)) && (nat_le 64 (length (allPlaces name_table)) && nat_le 256 (length (allPlaces occurrence_table)))
+enough token_table name_table occurrence_table = nat_le 1088 (length (all_places token_table)) && (nat_le 64 (length (all_places name_table)) && nat_le 256 (length (all_places occurrence_table)))
 
 -- t derives the text within the limits, and the tables hold what the reading of the text fills in
 pub record Filled (text : List ℕ) (token_table : Table Token) (name_table : Table Name) (t : Text) : Type 0 where
@@ -45,8 +45,8 @@ pub record Translates (t : Text) (r : Translated) (after : Table Occurrence) : T
 
 -- whatever the tables hold, only places in front of the count were written
 pub record InsideKept (before after : Table Occurrence) : Type 0 where
-  pub places : length (allPlaces after) ≡ length (allPlaces before)
-  pub beyond : drop (length (contents after)) (allPlaces after) ≡ drop (length (contents after)) (allPlaces before)
+  pub places : length (all_places after) ≡ length (all_places before)
+  pub beyond : drop (length (contents after)) (all_places after) ≡ drop (length (contents after)) (all_places before)
 
 -- translated, or refused with nothing touched and the reading handed back
 abbrev pub Outcome : Read → List ℕ → Table Token → Table Name → Table Occurrence → Table Occurrence → Result Translated TooFewPlaces → Type 0

@@ -1,7 +1,7 @@
 ghost use Rattle.std.specs.Prelude.{◌≡◌, ℕ, ◌+◌, ◌<◌, ◌≤◌, List, [], ◌∷◌, length};
 ghost use Rattle.table.specs.Contents.{contents};
 ghost use Rattle.paths.specs.Grammar.{Terminal, word};
-ghost use Rattle.paths.specs.Doors.{with_counter, plain as plainDoor};
+ghost use Rattle.paths.specs.Doors.{with_counter, plain as plain_door};
 ghost use Rattle.doors.specs.Told.{door_of, told};
 ghost use Rattle.translation.specs.Rows.{source, ahead, kinds_from, front, Inside, Past as PastIt, Extends, Added, later};
 
@@ -41,7 +41,7 @@ fn byte(n: u16) -> u8
 
 // A semaphore without a counter.
 fn plain(semaphore: u16) -> Door
-    ensures door { semaphore < 256 → door_of result ≡ plainDoor semaphore }
+    ensures door { semaphore < 256 → door_of result ≡ plain_door semaphore }
 {
     Door {
         semaphore: byte(semaphore),
@@ -91,8 +91,8 @@ impl Between {
     // A path's semaphore is its left door and its right door.
     pub fn of_path(path: u16, semaphore: u16) -> Between
         ensures path { path < 256 → result.path ≡ path }
-        ensures left { semaphore < 256 → door_of result.left ≡ plainDoor semaphore }
-        ensures right { semaphore < 256 → door_of result.right ≡ plainDoor semaphore }
+        ensures left { semaphore < 256 → door_of result.left ≡ plain_door semaphore }
+        ensures right { semaphore < 256 → door_of result.right ≡ plain_door semaphore }
     {
         Between {
             path: byte(path),
@@ -105,7 +105,7 @@ impl Between {
     pub fn before(self, semaphore: u16) -> Between
         ensures path { result.path ≡ self.path }
         ensures left { result.left ≡ self.left }
-        ensures right { semaphore < 256 → door_of result.right ≡ plainDoor semaphore }
+        ensures right { semaphore < 256 → door_of result.right ≡ plain_door semaphore }
     {
         Between {
             path: self.path,
@@ -117,7 +117,7 @@ impl Between {
     // The part behind a `;` has the semaphore of the `;` as its left door.
     pub fn behind(self, semaphore: u16) -> Between
         ensures path { result.path ≡ self.path }
-        ensures left { semaphore < 256 → door_of result.left ≡ plainDoor semaphore }
+        ensures left { semaphore < 256 → door_of result.left ≡ plain_door semaphore }
         ensures right { result.right ≡ self.right }
     {
         Between {

@@ -1,7 +1,7 @@
 -- What is printed for a text and its log, from what the steps tell.
 use Rattle.std.proofs.Common.{◌≡◌, ℕ, ◌+◌, ◌≤◌, List, [], ◌++◌, length, take, drop, IfOk, Ok, Err, Result, sym, refl, ap, ◌∙◌, subst, inl, inr, append_assoc, arith, length-append}
 use Rattle.table.specs.declared.Table.{Table}
-use Rattle.table.specs.Contents.{contents, allPlaces}
+use Rattle.table.specs.Contents.{contents, all_places}
 use Rattle.paths.specs.Grammar.{Text}
 use Rattle.tokens.specs.declared.Name.{Name}
 use Rattle.tokens.specs.declared.Token.{Token}
@@ -105,13 +105,13 @@ fault_told : (text : List ℕ) (ts : Table Token) (ns : Table Name) (f : ReadFau
 fault_told text ts ns f is = record { fault = f; place = is.tells.0; at_place = is.tells.1; first = (contents ts, is.tells.2); printed = refl }
 
 fault_is : (text : List ℕ) (ts : Table Token) (ns : Table Name) (ts' : Table Token) (ns' : Table Name) (f : ReadFault) → Answered text ts ns ts' ns' (Err f) →
-    1088 ≤ length (allPlaces ts) → 64 ≤ length (allPlaces ns) → FaultPrinted text (fault_line f)
+    1088 ≤ length (all_places ts) → 64 ≤ length (all_places ns) → FaultPrinted text (fault_line f)
 fault_is text ts ns ts' ns' (Grammar g) is large wide = fault_told text ts' ns' (Grammar g) is.1
 fault_is text ts ns ts' ns' (LimitPassed l p) is large wide = fault_told text ts' ns' (LimitPassed l p) is.1
 fault_is text ts ns ts' ns' TooFewPlaces is large wide = absurd (elim is.0 [ inl h ↦ omega arith | inr h ↦ omega arith ])
 
 pub fault_added : {E : Type 0} (places : ℕ) (rule : Rule) (text log : List ℕ) (ts : Table Token) (ns : Table Name) (ts' : Table Token) (ns' : Table Name) (f : ReadFault) (out out' : List ℕ) (r : Result (Unit {0}) E) →
-    Answered text ts ns ts' ns' (Err f) → 1088 ≤ length (allPlaces ts) → 64 ≤ length (allPlaces ns) → IfOk r (λ _. out' ≡ out ++ fault_line f) → IfOk r (λ _. TextAdded places rule text log out out')
+    Answered text ts ns ts' ns' (Err f) → 1088 ≤ length (all_places ts) → 64 ≤ length (all_places ns) → IfOk r (λ _. out' ≡ out ++ fault_line f) → IfOk r (λ _. TextAdded places rule text log out out')
 fault_added places rule text log ts ns ts' ns' f out out' (Ok u) is large wide e = record { bytes = fault_line f; printed = at_fault (fault_is text ts ns ts' ns' f is large wide); added = e }
 fault_added places rule text log ts ns ts' ns' f out out' (Err d) is large wide e = tt
 

@@ -1,7 +1,7 @@
 -- What the steps of the unit tell each other.
 use Rattle.std.specs.Prelude.{◌≡◌, ℕ, ◌≤◌, List, ◌++◌, length}
 use Rattle.table.specs.declared.Table.{Table}
-use Rattle.table.specs.Contents.{contents, allPlaces}
+use Rattle.table.specs.Contents.{contents, all_places}
 use Rattle.paths.specs.Grammar.{Text}
 use Rattle.tokens.specs.declared.Name.{Name}
 use Rattle.tokens.specs.declared.Token.{Token}
@@ -60,9 +60,9 @@ pub record RunAdded (places : ℕ) (rule : Rule) (text log out out' : List ℕ) 
 
 -- the tables have the places that are stated for them
 pub record Roomy (token_table : Table Token) (name_table : Table Name) (occurrence_table : Table Occurrence) : Type 0 where
-  pub for_tokens : 1088 ≤ length (allPlaces token_table)
-  pub for_names : 64 ≤ length (allPlaces name_table)
-  pub for_occurrences : 256 ≤ length (allPlaces occurrence_table)
+  pub for_tokens : 1088 ≤ length (all_places token_table)
+  pub for_names : 64 ≤ length (all_places name_table)
+  pub for_occurrences : 256 ≤ length (all_places occurrence_table)
 
 -- what is printed for a text and its log is added to the output
 pub record TextAdded (places : ℕ) (rule : Rule) (text log out out' : List ℕ) : Type 0 where

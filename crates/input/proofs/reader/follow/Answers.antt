@@ -3,8 +3,8 @@ use Rattle.std.proofs.lemmas.List.{drop_all, length-drop, length-take}
 use Rattle.input.proofs.Firsts.{next_line}
 use Rattle.input.proofs.reader.follow.Goals as goal
 
-pub returns-then-place_bytes : goal.returns-then-place_bytes
-returns-then-place_bytes c = record { line = drop_all c.args.place c.args.bytes.now (omega arith); moved = refl; bound = c.requires }
+pub returns-then-place-bytes : goal.returns-then-place-bytes
+returns-then-place-bytes c = record { line = drop_all c.args.place c.args.bytes.now (omega arith); moved = refl; bound = c.requires }
 
 pub returns : goal.returns
 returns c =

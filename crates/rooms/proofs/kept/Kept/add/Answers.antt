@@ -7,10 +7,12 @@ pub invariant_of-self : goal.invariant_of-self
 invariant_of-self g c =
     let s = c.args.self.now in
     let p = s.places in
-    let is = c.push.ensures in (
-      ap length is.items ∙ length-set p.items p.used c.args.e ∙ s.long,
-      (omega arith, (rw (is.items, is.used) (apart_added p.items p.used c.args.e (omega arith) c.requires.0 s.distinct), tt)),
-    )
+    let is = c.push.ensures in
+    record {
+      long = ap length is.items ∙ length-set p.items p.used c.args.e ∙ s.long;
+      few = omega arith;
+      distinct = rw (is.items, is.used) (apart_added p.items p.used c.args.e (omega arith) c.requires.0 s.distinct);
+    }
 
 pub returns : goal.returns
 returns g c =

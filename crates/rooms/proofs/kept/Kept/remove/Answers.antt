@@ -7,10 +7,12 @@ pub invariant_of-self : goal.invariant_of-self
 invariant_of-self g c =
     let s = c.args.self.now in
     let p = s.places in
-    let is = c.remove.ensures in (
-      ap length is.items ∙ length-set p.items c.args.i _ ∙ s.long,
-      (omega arith, (rw (is.items, is.used) (apart_closed p.items p.used c.args.i (omega arith) s.distinct c.requires), tt)),
-    )
+    let is = c.remove.ensures in
+    record {
+      long = ap length is.items ∙ length-set p.items c.args.i _ ∙ s.long;
+      few = omega arith;
+      distinct = rw (is.items, is.used) (apart_closed p.items p.used c.args.i (omega arith) s.distinct c.requires);
+    }
 
 pub returns : goal.returns
 returns g c =

@@ -1,6 +1,8 @@
 // Runs the unit on the cases of standard input, one to a line, and prints what it wrote for each.
 // A case is a row of pieces with `|` between them; `COUNT*PIECE` is a piece written COUNT times.
 // In a piece `\n`, `\t`, `\r` and `\xHH` stand for a byte.
+#![tactic(auto)]
+
 use std::alloc::{AllocError, Global};
 use std::io;
 use std::io::{Read, Write};

@@ -1,4 +1,6 @@
 // The doors of a text and how they stand: the memory by which a run knows what fits.
+#![tactic(auto)]
+
 mod calls;
 mod keeping;
 mod passing;

@@ -1,4 +1,6 @@
 // The order unit: standard input to standard output.
+#![tactic(auto)]
+
 use std::io;
 use std::io::{Read, Write};
 use unit::rule_on;

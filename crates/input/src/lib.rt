@@ -1,4 +1,6 @@
 // The program's input: text and log, and the lines of the log.
+#![tactic(auto)]
+
 ghost use Rattle.std.specs.Prelude.{◌≤◌, length};
 
 mod cut;

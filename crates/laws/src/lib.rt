@@ -1,4 +1,6 @@
 // What is printed for an input is settled by the input alone.
+#![tactic(auto)]
+
 ghost use Rattle.laws.specs.Outputs.{OnePrint, OneOutput};
 
 use rooms::RankRoom;

@@ -1,4 +1,6 @@
 // Odd lines and odd inputs, run.
+#![tactic(auto)]
+
 #[cfg(test)]
 mod inputs;
 #[cfg(test)]

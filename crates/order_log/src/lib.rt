@@ -1,4 +1,6 @@
 // The lines of a log, ruled by a run, and what is printed for them.
+#![tactic(auto)]
+
 mod answer;
 mod asking;
 pub mod fault;

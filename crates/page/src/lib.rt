@@ -1,4 +1,6 @@
 // Writers of bytes and numbers into the part of a page that is still free.
+#![tactic(auto)]
+
 ghost use Rattle.std.specs.Prelude.{◌≡◌, ◌+◌, ◌/◌, ◌%◌, ◌≤◌, min, length, is_ok, decimal, nat_le};
 ghost use Rattle.page.specs.Written.{Written, refusal_number};
 

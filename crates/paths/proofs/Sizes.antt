@@ -6,7 +6,7 @@ use mathlib.Core.List.{List, [], ◌∷◌, ◌++◌, Memᴰ}
 use Prim.Native.Nat.{ℕ, ◌+◌, ◌≤◌, ◌<◌}
 use native.Mathlib.Omega.{arith}
 use lib.ListN.{length, length-append}
-use Rattle.paths.specs.Grammar.{Terminal, semicolon, comma, round_close, brace_close, path, end, Text, one, more, yield_text, yield_path, yield_sequence, yield_selection, yield_element}
+use Rattle.paths.specs.Grammar.{Terminal, semicolon, comma, round_close, brace_close, end, Text, one, more, yield_text, yield_path, yield_sequence, yield_selection, yield_element}
 use Rattle.paths.specs.Grammar.{Sequence, Selection, Element, last, ◌⨟◌, only, ◌or◌, name, round, brace}
 use Rattle.paths.specs.Words.{names_of_sequence, names_of_selection, names_of_element}
 use Rattle.paths.specs.Doors.{Door, plain, with_counter, Occurrence, path_doors, semaphores_in_sequence, counters_in_sequence}

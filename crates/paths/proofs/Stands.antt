@@ -5,7 +5,7 @@ use mathlib.Core.Bool.{Bool, true, false, cond}
 use Prim.Native.Nat.{ℕ, zero, suc, ◌+◌, ◌-◌, ◌≤◌, ◌<◌}
 use native.Mathlib.Omega.{arith}
 use lib.Dec.{eqb}
-use Rattle.paths.specs.Words.{Event, ⊕, ⊖, operation}
+use Rattle.paths.specs.Words.{Event, ⊕, ⊖}
 use Rattle.paths.specs.Doors.{semaphore_of, Door, plain, counted, Occurrence, Standing, raised, lowered, gone_in, left_by, passed}
 use Rattle.paths.proofs.Tests.{eqb_same, eqb_cases, eqb_apart, by_eqb}
 use Rattle.paths.proofs.Now.{Status, idle, done, waiting, running, Node, at, inside, amid, Busy}

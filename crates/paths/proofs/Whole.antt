@@ -18,7 +18,7 @@ use Rattle.paths.proofs.Complete.{complete}
 use Rattle.paths.proofs.Enter.{enter, Plain}
 use Rattle.paths.proofs.Leave.{Leaves, leave, Gone}
 use Rattle.paths.proofs.Stands.{Stands, PlainNode}
-use Rattle.paths.proofs.Steps.{step, via_op, Running, ends, run_step, who_runs, open_enters, via_open}
+use Rattle.paths.proofs.Steps.{step, via_op, Running, run_step, who_runs, open_enters, via_open}
 use Rattle.paths.proofs.Occs.{good_of, mem_among, ops, ops_d, ops_mem, unique, next_one, after_snoc, after_seen, seen_snoc, seen_append, begun_snoc, ended_snoc, begun_seen, ended_seen}
 
 -- ---- rows of words

@@ -1,4 +1,6 @@
 // Paths, their words and their doors: each function carries one theorem, which its contract states. No function computes anything.
+#![tactic(auto)]
+
 ghost use Rattle.paths.specs.Grammar.{Unambiguous};
 ghost use Rattle.paths.specs.Doors.{DoorsAreRight, BeginningsFit};
 ghost use Rattle.paths.specs.Texts.{AllDoorsAreRight, AllBeginningsFit, DoorsLetThroughWhatFits};

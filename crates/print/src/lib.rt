@@ -1,4 +1,6 @@
 // What is printed of a text: its doors, or its first fault.
+#![tactic(auto)]
+
 mod doors_print;
 mod fault_print;
 mod pieces;

@@ -1,4 +1,6 @@
 // Reads a text into its tokens and its names, or tells its first fault.
+#![tactic(auto)]
+
 use tokens::{BytesFault, Token, TokenReader};
 
 mod counting;

@@ -1,4 +1,6 @@
 // Runs into the limits of tables, runs, rooms, lists and pages, and prints the numbers that are told there.
+#![tactic(auto)]
+
 use doors::{Door, Occurrence};
 use order_log::print_totals;
 use page::SmallPage;

@@ -1,4 +1,6 @@
 // Replays two lists of calls with the room by rank and with the room by age, and prints each answer.
+#![tactic(auto)]
+
 use doors::{Door, Occurrence};
 use rooms::order::Order;
 use rooms::waiting::Room;

@@ -1,4 +1,6 @@
 // Waiting rooms: a set of entries and a rule of choice.
+#![tactic(auto)]
+
 pub mod entry;
 pub mod exact;
 pub mod kept;

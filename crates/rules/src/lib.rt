@@ -1,4 +1,6 @@
 // The theory of reading a text: the numbers of its names, its grammar's rules, its limits, its first fault.
+#![tactic(auto)]
+
 ghost use Rattle.rules.specs.Names.{NumbersTellNames, NumbersStay};
 ghost use Rattle.rules.specs.Rules.{LimitsCount};
 ghost use Rattle.rules.specs.Laid.{TokensCover};

@@ -1,4 +1,6 @@
 // One table over lent places, for every kind of record.
+#![tactic(auto)]
+
 ghost use Rattle.std.specs.Prelude.{◌≤◌, length};
 
 mod ops;

@@ -1,4 +1,6 @@
 // Tests: texts that are read, translated and printed.
+#![tactic(auto)]
+
 #[cfg(test)]
 mod tests {
     use doors::{Door, Occurrence};

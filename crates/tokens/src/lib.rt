@@ -1,4 +1,6 @@
 // The tokens of a text, read one by one, and the look-up of a name.
+#![tactic(auto)]
+
 ghost use Rattle.std.specs.Prelude.{◌≤◌, length};
 
 mod class;

@@ -1,4 +1,6 @@
 // The translation of an accepted text into the occurrences of its names, each with its two doors.
+#![tactic(auto)]
+
 mod counts;
 mod refusal;
 mod steps;

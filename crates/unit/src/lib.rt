@@ -1,4 +1,6 @@
 // The whole unit: from the bytes of the input to the bytes of the output.
+#![tactic(auto)]
+
 mod prints;
 mod rulings;
 mod whole;

@@ -1,5 +1,5 @@
 -- Blanks at the front are passed over.
-use Rattle.std.proofs.Common.{◌≡◌, ℕ, suc, ◌+◌, ◌<◌, ◌≤◌, true, false, List, [], ◌∷◌, length, get_or, drop, sym, refl, ap, ◌∙◌, subst, arith, drop_of_length-le, drop-cons}
+use Rattle.std.proofs.Common.{◌≡◌, ℕ, suc, ◌+◌, ◌<◌, ◌≤◌, true, false, List, ◌∷◌, length, get_or, drop, sym, ap, ◌∙◌, subst, arith, drop_of_length-le, drop-cons}
 use borrow.Author.Tests.{clash}
 use Rattle.tokens.specs.Tokens.{Byte, blank, byte}
 use Rattle.tokens.specs.Reader.{next, next_at, Solid}

@@ -1,5 +1,5 @@
 -- The next token of a text from a place on.
-use Rattle.std.specs.Prelude.{◌≡◌, ℕ, suc, ◌+◌, ◌<◌, ◌≤◌, cond, ◌≢◌, List, [], ◌∷◌, length, take, Some, None, Ok, Err, Option, Result, nat_le}
+use Rattle.std.specs.Prelude.{◌≡◌, ℕ, suc, ◌+◌, ◌<◌, ◌≤◌, cond, ◌≢◌, List, [], ◌∷◌, take, Some, None, Ok, Err, Option, Result, nat_le}
 use Rattle.std.specs.List.{prefix_len}
 use Rattle.tokens.specs.declared.Token.{Token}
 use Rattle.tokens.specs.declared.class.Class.{Class}

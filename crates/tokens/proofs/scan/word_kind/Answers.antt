@@ -1,4 +1,4 @@
-use Rattle.std.proofs.Common.{◌≡◌, ℕ, List, codes, IsUtf8, sym, subst, lit<, rules}
+use Rattle.std.proofs.Common.{◌≡◌, ℕ, List, codes, IsUtf8, sym, subst, rules}
 use Rattle.std.proofs.lemmas.Slice.Eq.{bytes_eq-Decides}
 use Rattle.std.proofs.lemmas.Str.{IsUtf8-from_ascii}
 use Rattle.tokens.proofs.scan.word_kind.Goals as goal

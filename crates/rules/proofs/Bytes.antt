@@ -1,10 +1,10 @@
 -- What a byte is and what a row means, in the words of the layout and as the tokens have it.
-use Rattle.std.proofs.Common.{◌≡◌, ℕ, ◌≤◌, Bool, true, false, cond, ◌&&◌, ◌||◌, eqb, leb, ◌≢◌, ◌⊎◌, List, [], ◌∷◌, codes, sym, refl, ap, ◌∙◌, subst, inl, inr, arith}
+use Rattle.std.proofs.Common.{◌≡◌, ℕ, ◌≤◌, Bool, true, false, ◌&&◌, ◌||◌, eqb, leb, ◌≢◌, ◌⊎◌, List, codes, sym, refl, ap, ◌∙◌, subst, inl, inr, arith}
 use Rattle.std.specs.Str.{bytes_eq}
 use Rattle.std.proofs.lemmas.Slice.Eq.{bytes_eq-Decides}
 use Rattle.std.proofs.lemmas.Bool.{cond_both, cond-false, both_ways, or_cases, and_parts, and_from, leb-true, le-leb, eqb-true}
 use Rattle.tokens.specs.declared.Kind.{Kind}
-use Rattle.tokens.specs.declared.Kind.TheVariants.{Semicolon, Comma, RoundOpen, RoundClose, BraceOpen, BraceClose, Path, End, Name}
+use Rattle.tokens.specs.declared.Kind.TheVariants.{Semicolon, Comma, RoundOpen, RoundClose, BraceOpen, BraceClose, Path, End}
 use Rattle.tokens.specs.Tokens.{Byte, blank, letter, digit, other, sign, byte, goes_on, in_name, word_kind}
 use Rattle.rules.specs.Laid.{Blank, space, tab, line_feed, carriage_return, Sign, semicolon, comma, round_open, round_close, brace_open, brace_close, Letter, Digit, LetterOrDigit, StartsNone, WordKind, path_word, end_word, name}
 

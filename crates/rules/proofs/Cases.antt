@@ -1,5 +1,5 @@
 -- Worked cases, from the definitions.
-use Rattle.std.proofs.Common.{◌≤◌, [], ◌∷◌, codes, refl, lit≤}
+use Rattle.std.proofs.Common.{[], ◌∷◌, codes, refl, lit≤}
 use Rattle.tokens.specs.declared.Kind.TheVariants.{Semicolon, BraceOpen, BraceClose, Path, End, Name}
 use Rattle.tokens.specs.Tokens.{token}
 use Rattle.rules.specs.Rules.{begins_sentence, open_braces, name_once}

@@ -5,8 +5,8 @@ use Rattle.doors.proofs.Rows.at.Goals as goal
 pub place-requires : goal.place-requires
 place-requires c = let h = row_inside c.args.self.now c.args.operation c.args.i c.requires.within in record { within = (h.0, h.1) }
 
-pub offset-bounds-self-place : goal.offset-bounds-self-place
-offset-bounds-self-place c = omega (arith, row_inside c.args.self.now c.args.operation c.args.i c.requires.within)
+pub offset_bounds-self-place : goal.offset_bounds-self-place
+offset_bounds-self-place c = omega (arith, row_inside c.args.self.now c.args.operation c.args.i c.requires.within)
 
 pub bounds-self-place : goal.bounds-self-place
 bounds-self-place c = omega (arith, row_inside c.args.self.now c.args.operation c.args.i c.requires.within)

@@ -7,16 +7,16 @@ use Rattle.reading.proofs.Going.{onward_both, then_failed, deeper, around, again
 use Rattle.reading.proofs.Reading.+element_selection_sequence.Goals as goal
 
 -- ---- an element
-pub element-overflow-sub-depth : goal.element-overflow-sub-depth
-element-overflow-sub-depth t c =
+pub element-overflow_sub-depth : goal.element-overflow_sub-depth
+element-overflow_sub-depth t c =
     let d = together c.args.self.now c.args.tokens.now c.args.names.now in
-    let e = together c.advance-in-Some-ahead_is.last.self c.advance-in-Some-ahead_is.last.tokens c.advance-in-Some-ahead_is.last.names in
+    let e = together c.advance-in-Some-ahead_is.new.self c.advance-in-Some-ahead_is.new.tokens c.advance-in-Some-ahead_is.new.names in
     (deeper round_bracket c.args.depth d e c.in-Some-ahead_is.token c.requires.1 c.in-Some-ahead_is.ensures.ahead.1 c.in_ok-advance.ensures.advanced).0
 
 pub element-sequence-requires : goal.element-sequence-requires
 element-sequence-requires t c =
     let d = together c.args.self.now c.args.tokens.now c.args.names.now in
-    let e = together c.advance-in-Some-ahead_is.last.self c.advance-in-Some-ahead_is.last.tokens c.advance-in-Some-ahead_is.last.names in
+    let e = together c.advance-in-Some-ahead_is.new.self c.advance-in-Some-ahead_is.new.tokens c.advance-in-Some-ahead_is.new.names in
     let h = c.in_ok-advance.ensures.advanced in
     let k = deeper round_bracket c.args.depth d e c.in-Some-ahead_is.token c.requires.1 c.in-Some-ahead_is.ensures.ahead.1 h in
     (let z = k.0 in search rules, (h.ready, k.1))
@@ -24,7 +24,7 @@ element-sequence-requires t c =
 pub element-returns-in_err-sequence : goal.element-returns-in_err-sequence
 element-returns-in_err-sequence t c =
     let d = together c.args.self.now c.args.tokens.now c.args.names.now in
-    let e = together c.advance-in-Some-ahead_is.last.self c.advance-in-Some-ahead_is.last.tokens c.advance-in-Some-ahead_is.last.names in
+    let e = together c.advance-in-Some-ahead_is.new.self c.advance-in-Some-ahead_is.new.tokens c.advance-in-Some-ahead_is.new.names in
     let f = together c.sequence.new.self c.sequence.new.tokens c.sequence.new.names in
     let p = err_from_is_err_and c.from_residual-in_err-sequence.result c.from_residual-in_err-sequence.ensures.1 in
     record {
@@ -35,7 +35,7 @@ element-returns-in_err-sequence t c =
 pub element-returns-in-Some-ahead_is : goal.element-returns-in-Some-ahead_is
 element-returns-in-Some-ahead_is t c =
     let d = together c.args.self.now c.args.tokens.now c.args.names.now in
-    let e = together c.advance-in-Some-ahead_is.last.self c.advance-in-Some-ahead_is.last.tokens c.advance-in-Some-ahead_is.last.names in
+    let e = together c.advance-in-Some-ahead_is.new.self c.advance-in-Some-ahead_is.new.tokens c.advance-in-Some-ahead_is.new.names in
     let f = together c.sequence.new.self c.sequence.new.tokens c.sequence.new.names in
     let g = together c.close.new.self c.close.new.tokens c.close.new.names in
     record {
@@ -44,8 +44,8 @@ element-returns-in-Some-ahead_is t c =
           c.in_ok-sequence.ensures.sequence.0 c.close.ensures.bracket;
     }
 
-pub element-overflow-sub-depth-in-Some-ahead_is-2 : goal.element-overflow-sub-depth-in-Some-ahead_is-2
-element-overflow-sub-depth-in-Some-ahead_is-2 t c =
+pub element-overflow_sub-depth-in-Some-ahead_is-2 : goal.element-overflow_sub-depth-in-Some-ahead_is-2
+element-overflow_sub-depth-in-Some-ahead_is-2 t c =
     let d = together c.args.self.now c.args.tokens.now c.args.names.now in
     let e = together c.advance-in-Some-ahead_is-2.new.self c.advance-in-Some-ahead_is-2.new.tokens c.advance-in-Some-ahead_is-2.new.names in
     (deeper brace_bracket c.args.depth d e c.in-Some-ahead_is-2.token c.requires.1 c.in-Some-ahead_is-2.ensures.ahead.1 c.in_ok-advance-2.ensures.advanced).0

@@ -29,7 +29,7 @@ returns-in_default-ahead_is c =
     let q = c.in_ok-sequence.ensures.sequence in
     let w = within_path d e f c.args.self.now.ahead c.in-Some.first c.requires.1 c.in-Some.ensures.ahead.1 c.in_ok-advance.ensures.advanced q.0 in
     record {
-      path = refuse_there d f c.refusal-in_rest-ahead_is.result c.refusal-in_rest-ahead_is.ensures.refused w q.1 q.2 c.in_rest-ahead_is.ensures.ahead;
+      path = refuse_there d f c.refusal-in_default-ahead_is.result c.refusal-in_default-ahead_is.ensures.refused w q.1 q.2 c.in_default-ahead_is.ensures.ahead;
     }
 
 pub returns : goal.returns

@@ -8,7 +8,7 @@ use rooms::waiting::Room;
 
 // Over every room an input has one output.
 pub fn every_room_gives_one_output<R: Room>() -> u8
-    ensures theorem { OnePrint places (record { start = start; after = after; chooses = chooses }) }
+    ensures theorem { OnePrint R.places (record { start = R.start; after = R.after; chooses = R.chooses }) }
 {
     0
 }

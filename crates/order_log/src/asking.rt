@@ -31,7 +31,7 @@ pub(crate) fn ask<R: Room>(
     line: &[u8],
     list: &mut [LetIn; 256],
 ) -> Result<Answer, LogFault>
-    ensures asked { Asked places (record { start = start; after = after; chooses = chooses }) (view entries memory) text.now (contents names.now) line.now run.old run.new list.old list.new result }
+    ensures asked { Asked R.places (record { start = R.start; after = R.after; chooses = R.chooses }) (view R.entries R.memory) text.now (contents names.now) line.now run.old run.new list.old list.new result }
 {
     match read_line(line)? {
         Order::Begin { name, rank } => {

@@ -28,7 +28,7 @@ fn rule_on_page<R: Room>(
     page: &mut [u8],
 ) -> usize
     requires { 16384 ≤ length page.old }
-    ensures told { RulingTold places (record { start = start; after = after; chooses = chooses }) (view entries memory) text.now (contents names.now) line.now number run.old run.new list.old list.new page.old page.new result }
+    ensures told { RulingTold R.places (record { start = R.start; after = R.after; chooses = R.chooses }) (view R.entries R.memory) text.now (contents names.now) line.now number run.old run.new list.old list.new page.old page.new result }
 {
     let answer = ask(run, text, names, line, list);
     put_answer(page, number, text, names, list, answer)
@@ -46,7 +46,7 @@ pub fn rule_line<R: Room>(
     page: &mut [u8],
 ) -> Result<usize, SmallPage>
     ensures checked { is_ok result ≡ nat_le 16384 (length page.old) }
-    ensures ruled { RuledLine places (record { start = start; after = after; chooses = chooses }) (view entries memory) text.now (contents names.now) line.now number run.old run.new list.old list.new page.old page.new result }
+    ensures ruled { RuledLine R.places (record { start = R.start; after = R.after; chooses = R.chooses }) (view R.entries R.memory) text.now (contents names.now) line.now number run.old run.new list.old list.new page.old page.new result }
 {
     check_page(page)?;
     Ok(rule_on_page(run, text, names, line, number, list, page))

@@ -19,7 +19,7 @@ use translation::translate;
 fn carry<R: Room>(run: &mut Run<R>, call: Call, list: &mut [LetIn], used: usize) -> (Answer, usize)
     requires { used ≤ length list.old }
     ensures within { (used ≤ result.1) × (result.1 ≤ length list.old) }
-    ensures carried { Carried places (record { start = start; after = after; chooses = chooses }) (view entries memory run.old) (view entries memory run.new) call (length list.old - used) result.0 (take (result.1 - used) (drop used list.new)) }
+    ensures carried { Carried R.places (record { start = R.start; after = R.after; chooses = R.chooses }) (view R.entries R.memory run.old) (view R.entries R.memory run.new) call (length list.old - used) result.0 (take (result.1 - used) (drop used list.new)) }
     ensures rest { (take used list.new ≡ take used list.old) × (drop result.1 list.new ≡ drop result.1 list.old) }
 {
     match call {
@@ -41,7 +41,7 @@ fn turns(calls: &[Call], answers: &[Answer]) -> usize
 
 // Carries the calls, as many as there are places for answers.
 fn carry_all<R: Room>(run: &mut Run<R>, calls: &[Call], answers: &mut [Answer], list: &mut [LetIn])
-    ensures carried { CarriedAll places (record { start = start; after = after; chooses = chooses }) (view entries memory run.old) (view entries memory run.new) calls.now answers.old answers.new list.old list.new }
+    ensures carried { CarriedAll R.places (record { start = R.start; after = R.after; chooses = R.chooses }) (view R.entries R.memory run.old) (view R.entries R.memory run.new) calls.now answers.old answers.new list.old list.new }
 {
     let mut used = 0;
     for i in 0..turns(calls, answers) {
@@ -62,7 +62,7 @@ pub fn replay<R: Room>(
     answers: &mut [Answer],
     list: &mut [LetIn],
 ) -> Result<Closed<R>, ReadFault>
-    ensures says { ReplaySays places (record { start = start; after = after; chooses = chooses }) entries text.now (tables tokens.old names.old occurrences.old) (tables tokens.new names.new occurrences.new) calls.now answers.old answers.new list.old list.new result }
+    ensures says { ReplaySays R.places (record { start = R.start; after = R.after; chooses = R.chooses }) R.entries text.now (tables tokens.old names.old occurrences.old) (tables tokens.new names.new occurrences.new) calls.now answers.old answers.new list.old list.new result }
     ensures rests { Rests (tables tokens.old names.old occurrences.old) (tables tokens.new names.new occurrences.new) }
 {
     let read = read(text, tokens, names)?;

@@ -27,7 +27,7 @@ fn add_ruling<R: Room>(
     page: &mut [u8; 16384],
     out: &mut Vec<u8>,
 ) -> Result<(), AllocError>
-    ensures added { OnOk result (LineAdded places (record { start = start; after = after; chooses = chooses }) text.now (contents names.now) line.now number (view entries memory run.old) (view entries memory run.new) out.old.items out.new.items) }
+    ensures added { OnOk result (LineAdded R.places (record { start = R.start; after = R.after; chooses = R.chooses }) text.now (contents names.now) line.now number (view R.entries R.memory run.old) (view R.entries R.memory run.new) out.old.items out.new.items) }
 {
     let Ok(n) = rule_line(run, text, names, line, number, list, page) else {
         return unreachable();
@@ -53,7 +53,7 @@ pub(crate) fn add_rulings<R: Room>(
     page: &mut [u8; 16384],
     out: &mut Vec<u8>,
 ) -> Result<(), AllocError>
-    ensures added { OnOk result ((t : Text) → ReadNames (contents names.now) → Reached t (record { start = start; after = after; chooses = chooses }) (view entries memory run.old) [] → LogAdded places (record { start = start; after = after; chooses = chooses }) t text.now (contents names.now) log.now (view entries memory run.new) out.old.items out.new.items) }
+    ensures added { OnOk result ((t : Text) → ReadNames (contents names.now) → Reached t (record { start = R.start; after = R.after; chooses = R.chooses }) (view R.entries R.memory run.old) [] → LogAdded R.places (record { start = R.start; after = R.after; chooses = R.chooses }) t text.now (contents names.now) log.now (view R.entries R.memory run.new) out.old.items out.new.items) }
 {
     let mut list = [LetIn {
         ticket: 0,

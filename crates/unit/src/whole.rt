@@ -29,7 +29,7 @@ fn add_run<R: Room + Drop>(
     log: &[u8],
     out: &mut Vec<u8>,
 ) -> Result<(), AllocError>
-    ensures added { OnOk result ((t : Text) → TreeTold text.now names.now translated.now occurrences.now t → RunAdded places (record { start = start; after = after; chooses = chooses }) text.now log.now out.old.items out.new.items) }
+    ensures added { OnOk result ((t : Text) → TreeTold text.now names.now translated.now occurrences.now t → RunAdded R.places (record { start = R.start; after = R.after; chooses = R.chooses }) text.now log.now out.old.items out.new.items) }
 {
     let mut page = [0; 16384];
     add_doors(text, names, occurrences, &mut page, out)?;
@@ -51,7 +51,7 @@ fn add_text<R: Room + Drop>(
     out: &mut Vec<u8>,
 ) -> Result<(), AllocError>
     requires { (Roomy tokens.now names.now occurrences.old) × (TextRead text.now tokens.now names.now read) }
-    ensures added { OnOk result (TextAdded places (record { start = start; after = after; chooses = chooses }) text.now log.now out.old.items out.new.items) }
+    ensures added { OnOk result (TextAdded R.places (record { start = R.start; after = R.after; chooses = R.chooses }) text.now log.now out.old.items out.new.items) }
 {
     let Ok(translated) = translate(read, text, tokens, names, occurrences) else {
         return unreachable();
@@ -69,7 +69,7 @@ fn add_parts<R: Room + Drop>(
     out: &mut Vec<u8>,
 ) -> Result<(), AllocError>
     requires { Roomy tokens.old names.old occurrences.old }
-    ensures added { OnOk result (TextAdded places (record { start = start; after = after; chooses = chooses }) text.now log.now out.old.items out.new.items) }
+    ensures added { OnOk result (TextAdded R.places (record { start = R.start; after = R.after; chooses = R.chooses }) text.now log.now out.old.items out.new.items) }
 {
     match read(text, tokens, names) {
         Ok(read) => add_text::<R>(read, text, tokens, names, occurrences, log, out),
@@ -79,7 +79,7 @@ fn add_parts<R: Room + Drop>(
 
 // What is printed for a text and its log, over a room of this kind.
 fn rule_text<R: Room + Drop>(heap: Global, text: &[u8], log: &[u8]) -> Result<Vec<u8>, AllocError>
-    ensures printed { IfOk result (λ v. TextPrints places (record { start = start; after = after; chooses = chooses }) text.now log.now v.items) }
+    ensures printed { IfOk result (λ v. TextPrints R.places (record { start = R.start; after = R.after; chooses = R.chooses }) text.now log.now v.items) }
 {
     let mut token_places = [Token {
         kind: Kind::End,
@@ -121,7 +121,7 @@ fn long_input_line() -> &'static [u8]
 
 // What is printed for an input, over a room of this kind.
 fn rule_input<R: Room + Drop>(heap: Global, input: &[u8]) -> Result<Vec<u8>, AllocError>
-    ensures printed { IfOk result (λ v. Prints places (record { start = start; after = after; chooses = chooses }) input.now v.items) }
+    ensures printed { IfOk result (λ v. Prints R.places (record { start = R.start; after = R.after; chooses = R.chooses }) input.now v.items) }
 {
     match check_input(input) {
         Ok(()) => {

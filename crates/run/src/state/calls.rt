@@ -14,7 +14,7 @@ use rooms::waiting::Room;
 impl<R: Room> Run<R> {
     // Begins an operation: it is let in, or told to wait in the room.
     pub fn begin(&mut self, operation: u8, rank: u8) -> Result<Begun, RunFault>
-        ensures says { Carries places (record { start = start; after = after; chooses = chooses }) (view entries memory self.old) (view entries memory self.new) (begin operation rank result) }
+        ensures says { Carries R.places (record { start = R.start; after = R.after; chooses = R.chooses }) (view R.entries R.memory self.old) (view R.entries R.memory self.new) (begin operation rank result) }
         ensures keeps { Keeps result self.old self.new }
     {
         self.may_begin(operation, rank)?;
@@ -40,7 +40,7 @@ impl<R: Room> Run<R> {
 
     // Ends an operation, and lets in those who wait as long as one of them could join: the room's choice each time.
     pub fn end(&mut self, operation: u8, list: &mut [LetIn]) -> Result<usize, RunFault>
-        ensures says { Carries places (record { start = start; after = after; chooses = chooses }) (view entries memory self.old) (view entries memory self.new) (end operation (length list.old) (take (result_unwrap_or result 0) list.new) result) }
+        ensures says { Carries R.places (record { start = R.start; after = R.after; chooses = R.chooses }) (view R.entries R.memory self.old) (view R.entries R.memory self.new) (end operation (length list.old) (take (result_unwrap_or result 0) list.new) result) }
         ensures within { result_unwrap_or result 0 ≤ length list.old }
         ensures rest { drop (result_unwrap_or result 0) list.new ≡ drop (result_unwrap_or result 0) list.old }
         ensures keeps { Keeps result self.old self.new }
@@ -62,7 +62,7 @@ impl<R: Room> Run<R> {
 
     // Withdraws a ticket from the room.
     pub fn withdraw(&mut self, ticket: u32) -> Result<u8, RunFault>
-        ensures says { Carries places (record { start = start; after = after; chooses = chooses }) (view entries memory self.old) (view entries memory self.new) (withdraw ticket result) }
+        ensures says { Carries R.places (record { start = R.start; after = R.after; chooses = R.chooses }) (view R.entries R.memory self.old) (view R.entries R.memory self.new) (withdraw ticket result) }
         ensures keeps { Keeps result self.old self.new }
     {
         match self.room.drop_ticket(ticket) {

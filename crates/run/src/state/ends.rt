@@ -25,7 +25,7 @@ fn operations(translated: &Translated) -> usize
 impl<R: Room> Run<R> {
     // Opens a run of a translated text: makes its room and copies the doors.
     pub fn open(translated: &Translated, occurrences: &Table<Occurrence>) -> Self
-        ensures opened { (t : Text) → Within t → Translates t translated.now occurrences.now → Reached t (record { start = start; after = after; chooses = chooses }) (view entries memory result) [] }
+        ensures opened { (t : Text) → Within t → Translates t translated.now occurrences.now → Reached t (record { start = R.start; after = R.after; chooses = R.chooses }) (view R.entries R.memory result) [] }
     {
         Run {
             room: R::new(),
@@ -41,7 +41,7 @@ impl<R: Room> Run<R> {
 
     // Takes the run apart into its totals and its room.
     pub(crate) fn apart(self) -> Closed<R>
-        ensures totals { (t : Text) (rs : List Record) → Reached t (record { start = start; after = after; chooses = chooses }) (view entries memory self) rs → Totaled rs result.totals }
+        ensures totals { (t : Text) (rs : List Record) → Reached t (record { start = R.start; after = R.after; chooses = R.chooses }) (view R.entries R.memory self) rs → Totaled rs result.totals }
         ensures room { result.room ≡ self.room }
     {
         let Run {
@@ -68,7 +68,7 @@ impl<R: Room> Run<R> {
 impl<R: Room + Drop> Run<R> {
     // Closes the run, and lets its room go.
     pub fn close(self) -> Totals
-        ensures totals { (t : Text) (rs : List Record) → Reached t (record { start = start; after = after; chooses = chooses }) (view entries memory self) rs → Totaled rs result }
+        ensures totals { (t : Text) (rs : List Record) → Reached t (record { start = R.start; after = R.after; chooses = R.chooses }) (view R.entries R.memory self) rs → Totaled rs result }
     {
         self.apart().totals
     }

@@ -33,7 +33,7 @@ pub(crate) fn put(list: &mut [LetIn], at: usize, item: LetIn)
 impl<R: Room> Run<R> {
     // What stops a begin before fitting is asked: an unknown operation, a rank above 9, or too many begins.
     pub(crate) fn may_begin(&self, operation: u8, rank: u8) -> Result<(), RunFault>
-        ensures { MayBegin (view entries memory self.now) operation rank result }
+        ensures { MayBegin (view R.entries R.memory self.now) operation rank result }
     {
         if operation as usize >= self.operations {
             return Err(RunFault::UnknownOperation);
@@ -49,7 +49,7 @@ impl<R: Room> Run<R> {
 
     // What stops an end: an unknown operation, one that does not run, or a list with fewer places than entries wait.
     pub(crate) fn may_end(&self, operation: u8, places: usize) -> Result<(), RunFault>
-        ensures { MayEnd (view entries memory self.now) operation places result }
+        ensures { MayEnd (view R.entries R.memory self.now) operation places result }
     {
         let a = operation as usize;
         if a >= self.operations {
@@ -66,7 +66,7 @@ impl<R: Room> Run<R> {
 
     // Whether the operation could join.
     pub(crate) fn could_join(&self, operation: u8) -> bool
-        ensures { Tested (view entries memory self.now) operation result }
+        ensures { Tested (view R.entries R.memory self.now) operation result }
     {
         self.doors.fits(operation)
     }
@@ -81,7 +81,7 @@ impl<R: Room> Run<R> {
     // The operation goes in, by all its left doors.
     pub(crate) fn go_in(&mut self, operation: u8)
         requires { operation < 64 }
-        ensures { GoneIn (view entries memory self.old) (view entries memory self.new) operation }
+        ensures { GoneIn (view R.entries R.memory self.old) (view R.entries R.memory self.new) operation }
     {
         self.doors.enter(operation);
         let a = operation as usize;
@@ -92,7 +92,7 @@ impl<R: Room> Run<R> {
     // The operation leaves, by all its right doors.
     pub(crate) fn go_out(&mut self, operation: u8)
         requires { operation < 64 }
-        ensures { GoneOut (view entries memory self.old) (view entries memory self.new) operation }
+        ensures { GoneOut (view R.entries R.memory self.old) (view R.entries R.memory self.new) operation }
     {
         self.doors.leave(operation);
         let a = operation as usize;
@@ -102,14 +102,14 @@ impl<R: Room> Run<R> {
 
     // Counts a withdrawal.
     pub(crate) fn count_withdrawn(&mut self)
-        ensures { view entries memory self.new ≡ with_one_withdrawn (view entries memory self.old) }
+        ensures { view R.entries R.memory self.new ≡ with_one_withdrawn (view R.entries R.memory self.old) }
     {
         self.withdrawn = more(self.withdrawn);
     }
 
     // Which operations of the text could join.
     fn fitting(&self) -> [bool; 64]
-        ensures says { Fitting (view entries memory self.now) (λ a. slice_index_or result a false) }
+        ensures says { Fitting (view R.entries R.memory self.now) (λ a. slice_index_or result a false) }
         ensures long { length result ≡ 64 }
     {
         let mut table = [false; 64];
@@ -121,7 +121,7 @@ impl<R: Room> Run<R> {
 
     // Lets the room's choice among those that could join go in, if one of those who wait could.
     pub(crate) fn admit(&mut self) -> Option<Entry>
-        ensures { Admits (record { start = start; after = after; chooses = chooses }) (view entries memory self.old) (view entries memory self.new) result }
+        ensures { Admits (record { start = R.start; after = R.after; chooses = R.chooses }) (view R.entries R.memory self.old) (view R.entries R.memory self.new) result }
     {
         if self.room.count() == 0 {
             return None;

@@ -10,6 +10,6 @@ returns c =
     let number = ap decimal c.number.ensures.number in
     let place = ap (λ p. place_bytes p ++ 10 ∷ []) c.place.ensures.place in
     record {
-      written = written_more (written_more (written_more (same_bytes stage c.put_space.ensures.written) c.put.ensures.written) (same_bytes number c.put_number.ensures.written)) (same_bytes place c.put_place_end.ensures.written);
+      written = written_more (written_more (written_more (same_bytes stage c.put-space.ensures.written) c.put.ensures.written) (same_bytes number c.put_number.ensures.written)) (same_bytes place c.put_place_end.ensures.written);
       short = fault_fits c.args.fault (subst (λ bs. length bs ≤ 20) number c.put_number.ensures.short) (subst (λ bs. length bs ≤ 25) place c.put_place_end.ensures.short);
     }

@@ -8,6 +8,6 @@ pub returns-in-Some : goal.returns-in-Some
 returns-in-Some c =
     let same = ap place_bytes (sym c.in-Some.is) in
     record {
-      written = same_bytes same (written_more c.put_at.ensures.written c.put_number.ensures.written);
+      written = same_bytes same (written_more c.put-at.ensures.written c.put_number.ensures.written);
       short = subst (λ bs. length bs ≤ 24) same (place_fits c.in-Some.place c.put_number.ensures.short);
     }

@@ -23,6 +23,6 @@ returns c =
     let same : ((decimal n ++ (32 ∷ codes "refused")) ++ (32 ∷ decimal k)) ++ (32 ∷ (codes "at" ++ (32 ∷ (decimal p ++ (10 ∷ []))))) ≡ refused_line n k (Some p) = simp append_assoc in
     record {
       written = same_bytes (same ∙ ap (refused_line n k) (sym c.in-Some.is))
-          (written_more (written_more c.put_no-at.ensures.written c.put_figure.ensures.written) c.put-at.ensures.written);
+          (written_more (written_more c.put_no-at.ensures.written c.put_figure.ensures.written) c.put_at.ensures.written);
       short = subst (λ x. length (refused_line n k x) ≤ 74) (sym c.in-Some.is) (refused_at_fits n k p (twenty_digits n (omega arith)) (twenty_digits k (omega arith)) (twenty_digits p (omega arith)));
     }

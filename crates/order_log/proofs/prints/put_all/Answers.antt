@@ -16,7 +16,7 @@ pub loop-one-preserved : goal.loop-one-preserved
 loop-one-preserved c =
     let f = let_in_line (name_bytes c.args.text.now (contents c.args.names.now)) c.args.number in
     let xs = c.args.list.now in
-    let i = c.loop-one.one_Index in
+    let i = c.loop-one.one-index in
     let more = one_more_line f xs i nobody (omega arith) in
     let short = c.put_let_in-at.ensures.short in (
       same_bytes more (written_more c.loop-one.invariant.0 c.put_let_in-at.ensures.written),
@@ -29,7 +29,7 @@ loop-one-preserved c =
 pub returns : goal.returns
 returns c =
     let f = let_in_line (name_bytes c.args.text.now (contents c.args.names.now)) c.args.number in
-    let all : flat_map f (take c.loop-one.one_Index c.args.list.now) ≡ flat_map f c.args.list.now = ap (flat_map f) (take_all c.loop-one.one_Index c.args.list.now (omega arith)) in
+    let all : flat_map f (take c.loop-one.one-index c.args.list.now) ≡ flat_map f c.args.list.now = ap (flat_map f) (take_all c.loop-one.one-index c.args.list.now (omega arith)) in
     record {
       written = same_bytes all c.loop-one.invariant.0;
       short = λ r. subst (λ l. length l ≤ 62 * length c.args.list.now) all (omega (arith, c.loop-one.invariant.1 r));

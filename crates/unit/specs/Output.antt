@@ -8,7 +8,7 @@ use Rattle.rules.specs.Rules.{Within}
 use Rattle.rules.specs.Faults.{FirstFault, Derives}
 use Rattle.reading.specs.declared.ReadFault.{ReadFault}
 use Rattle.reading.specs.Faults.{fault_number, fault_place}
-use Rattle.rooms.specs.First.{First, by_rank}
+use Rattle.rooms.specs.First.{First, by_rank as first_by_rank}
 use Rattle.run.specs.declared.answer.Totals.{Totals}
 use Rattle.run.specs.Closing.{Totaled}
 use Rattle.run.specs.Law.{Told}
@@ -74,7 +74,7 @@ pub data Prints (places : ℕ) (rule : Rule) (input out : List ℕ) : Type 0 whe
 
 -- the room by rank: the greatest rank, among equals the smallest ticket; it remembers nothing
 abbrev pub by_rank : Rule
-by_rank = record { start = 0; after = λ memory entry. 0; chooses = λ memory. First by_rank }
+by_rank = record { start = 0; after = λ memory entry. 0; chooses = λ memory. First first_by_rank }
 
 -- what the program prints: its room is by rank, with 256 places
 abbrev pub OutputOf : List ℕ → List ℕ → Type 0

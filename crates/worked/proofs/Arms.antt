@@ -19,7 +19,7 @@ use Rattle.tokens.specs.declared.Name.{Name}
 use Rattle.tokens.specs.Tokens.{byte, digit, tokens}
 use Rattle.rooms.specs.declared.entry.Entry.{Entry}
 use Rattle.rooms.specs.Entries.{In}
-use Rattle.rooms.specs.First.{by_rank}
+use Rattle.rooms.specs.First.{by_rank as first_by_rank}
 use Rattle.run.specs.declared.answer.Begun.{Begun}
 use Rattle.run.specs.declared.answer.Begun.TheVariants.{In as Goes, Waits}
 use Rattle.run.specs.declared.answer.LetIn.{LetIn}
@@ -164,7 +164,7 @@ waits rs a k known rank few t room h settled =
     record { says = ((known, rank, few), f, room, refl); lets_in = λ x. ((λ i. absurd i), f); fits = fits (history rs) h; settled = settled }
 
 -- the only one who waits is chosen, if it could join
-chosen : (rs : List Record) (e : Entry) → waiting rs ≡ e ∷ [] → could_join (history rs) e.operation ≡ true → by_rank e e ≡ true → Choice (one arms) by_rank rs (let_in e.ticket e.operation)
+chosen : (rs : List Record) (e : Entry) → waiting rs ≡ e ∷ [] → could_join (history rs) e.operation ≡ true → first_by_rank e e ≡ true → Choice (one arms) by_rank rs (let_in e.ticket e.operation)
 chosen rs e is may self =
     let here : In e (waiting rs) = subst (In e) (sym is) (is_in e) in
     record {
@@ -176,7 +176,7 @@ chosen rs e is may self =
         fits = ((joins (history rs) e.operation).0 may).1;
         allowed = could_join (history rs);
         joins = joins (history rs);
-        chosen = record { among = here; may = may; before = λ y i ok. subst (λ z. by_rank e z ≡ true) (sym (only_one y e (subst (In y) is i))) self };
+        chosen = record { among = here; may = may; before = λ y i ok. subst (λ z. first_by_rank e z ≡ true) (sym (only_one y e (subst (In y) is i))) self };
       };
     }
 

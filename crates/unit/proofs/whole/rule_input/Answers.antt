@@ -13,4 +13,4 @@ returns-in-Ok g c =
     record { printed = input_short g.R.Room.places _ input _ _ _ _ vec_items c.rule_text.result c.in-Ok.ensures.judged c.split-parts.ensures.cut (ap (λ k. take k input) front) (take_rest input c.split-parts.result.log_start) c.rule_text.ensures.printed }
 
 pub returns-in-Err : goal.returns-in-Err
-returns-in-Err g c = record { printed = IfOk-weaker c.from_slice.result _ _ (λ v e. too_long c.in-Err.ensures.judged (e.0 ∙ c.long_input_line.ensures.line)) c.from_slice.ensures.made }
+returns-in-Err g c = record { printed = IfOk-weaker c.from_slice.result _ _ (λ v e. too_long c.in-Err.ensures.judged (e ∙ c.long_input_line.ensures.line)) c.from_slice.ensures.items }

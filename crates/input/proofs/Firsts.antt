@@ -1,6 +1,6 @@
 -- The first line of some bytes: there is one, and only one.
 use Rattle.std.proofs.Common.{◌≡◌, ℕ, zero, suc, ◌+◌, ◌-◌, ◌<◌, ◌≤◌, ◌≢◌, ◌⊎◌, List, [], ◌∷◌, ◌++◌, length, get_or, take, drop, sym, refl, ap, ◌∙◌, subst, inl, inr, arith}
-use Rattle.std.specs.List.{between, AllByRecursion as All}
+use Rattle.std.specs.List.{between, AllByRecursion}
 use Rattle.std.proofs.ByRecursion.{All-more}
 use Rattle.std.proofs.lemmas.List.{append-nil, append_assoc, length-append, length-drop, take_all, take-append-drop, take_rest, drop-drop, drop_all, drop_more}
 use Rattle.std.proofs.lemmas.Bool.{cases_eq, cases_lt}
@@ -8,7 +8,7 @@ use Rattle.input.specs.Input.{FirstLine, Lines, none, more, OneList}
 use Rattle.input.specs.Told.{LineLength}
 
 abbrev Row : List ℕ → Type 0
-Row = All (λ b. b ≢ 10)
+Row = AllByRecursion (λ b. b ≢ 10)
 
 first : {x y : ℕ} {xs ys : List ℕ} → x ∷ xs ≡ y ∷ ys → x ≡ y
 first e = ap (λ l. get_or l 0 0) e

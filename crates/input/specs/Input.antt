@@ -1,10 +1,10 @@
 -- The program's input: its lines, its text and its log.
 use Rattle.std.specs.Prelude.{◌≡◌, ℕ, ◌≢◌, ◌⊎◌, List, [], ◌∷◌, ◌++◌, codes}
-use Rattle.std.specs.List.{AllByRecursion as All}
+use Rattle.std.specs.List.{AllByRecursion}
 
 -- the first line of some bytes, and what follows it: byte 10 ends a line and is no part of it; a last line without byte 10 counts if it has any byte
 pub record FirstLine (bytes line rest : List ℕ) : Type 0 where
-  pub within : All (λ b. b ≢ 10) line
+  pub within : AllByRecursion (λ b. b ≢ 10) line
   pub ends : (bytes ≡ line ++ (10 ∷ rest)) ⊎ ((bytes ≡ line) × (line ≢ []) × (rest ≡ []))
 
 -- all lines of some bytes, in order

@@ -1,6 +1,6 @@
 -- Names and tickets: one byte of one kind, then others of another, at most so many.
 use Rattle.std.proofs.Common.{◌≡◌, ℕ, zero, suc, ◌+◌, ◌<◌, ◌≤◌, ◌⊎◌, List, [], ◌∷◌, ◌++◌, length, get_or, take, subst, inl, inr, arith}
-use Rattle.std.specs.List.{AllByRecursion as All}
+use Rattle.std.specs.List.{AllByRecursion}
 use Rattle.std.proofs.ByRecursion.{All-get_or, All-more}
 use Rattle.std.proofs.lemmas.List.{length-append, length-take-le, get_or-take}
 use Rattle.std.proofs.lemmas.Bool.{cases_lt}
@@ -8,7 +8,7 @@ use Rattle.lines.specs.Lines.{Row}
 use Rattle.lines.specs.Reads.{Longest}
 use Rattle.lines.proofs.Places.{Growing, seek}
 
-all_front : (P : ℕ → Type 0) (xs ys : List ℕ) → All P (xs ++ ys) → All P xs
+all_front : (P : ℕ → Type 0) (xs ys : List ℕ) → AllByRecursion P (xs ++ ys) → AllByRecursion P xs
 all_front P [] ys h = tt
 all_front P (x ∷ xs) ys h = (h.0, all_front P xs ys h.1)
 
@@ -52,7 +52,7 @@ module _ (First Other : ℕ → Type 0) (most : ℕ) where
   row_told first other [] = inr (λ h. h)
   row_told first other (b ∷ bs) = go (first b) (all_told bs) (cases_lt most (length (b ∷ bs)))
     where
-      all_told : (ys : List ℕ) → All Other ys ⊎ (All Other ys → ⊥)
+      all_told : (ys : List ℕ) → AllByRecursion Other ys ⊎ (AllByRecursion Other ys → ⊥)
       all_told [] = inl tt
       all_told (y ∷ ys) = both (other y) (all_told ys)
         where
@@ -62,7 +62,7 @@ module _ (First Other : ℕ → Type 0) (most : ℕ) where
           both (inr f) (inl b) = inr (λ h. f h.0)
           both (inr f) (inr g) = inr (λ h. f h.0)
 
-      go : First b ⊎ (First b → ⊥) → All Other bs ⊎ (All Other bs → ⊥) → (most < length (b ∷ bs)) ⊎ (length (b ∷ bs) ≤ most) → Row First Other most (b ∷ bs) ⊎ (Row First Other most (b ∷ bs) → ⊥)
+      go : First b ⊎ (First b → ⊥) → AllByRecursion Other bs ⊎ (AllByRecursion Other bs → ⊥) → (most < length (b ∷ bs)) ⊎ (length (b ∷ bs) ≤ most) → Row First Other most (b ∷ bs) ⊎ (Row First Other most (b ∷ bs) → ⊥)
       go (inl f) (inl a) (inr le) = inl (f, a, le)
       go (inl f) (inl a) (inl lt) = inr (λ h. omega (arith, h.2))
       go (inl f) (inr a) o = inr (λ h. a h.1)

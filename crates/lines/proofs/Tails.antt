@@ -4,7 +4,7 @@ use lib.Seq.{take-append-add}
 use borrow.Author.Tests.{clash}
 use Rattle.std.specs.Str.Parse.{digits_value, AllDigits}
 use Rattle.std.specs.Char.{digit_value}
-use Rattle.std.specs.List.{AllByRecursion as All}
+use Rattle.std.specs.List.{AllByRecursion}
 use Rattle.std.proofs.lemmas.List.{append_assoc, length-append, length-take-le}
 use Rattle.std.proofs.lemmas.Int.Digits.{digits_value_more}
 use Rattle.std.proofs.lemmas.Str.Parse.{numerals_by_value, tells_digits, digits_value_short}
@@ -51,7 +51,7 @@ value_grows xs n before after lt e f = f ∙ ap (λ v. v * 10 + digit_value (get
 digit_small : (b : ℕ) → byte b ≡ digit → digit_value b < 10
 digit_small b e = grind (arith, nat_tests)
 
-digits_small : (ds : List ℕ) → All (λ b. byte b ≡ digit) ds → AllDigits 10 ds
+digits_small : (ds : List ℕ) → AllByRecursion (λ b. byte b ≡ digit) ds → AllDigits 10 ds
 digits_small [] h = tt
 digits_small (d ∷ ds) h = (digit_small d h.0, digits_small ds h.1)
 
@@ -66,7 +66,7 @@ ticket_small xs n k number up le w e =
     all (d ∷ ds) h = (digit_small d h.0.0, digits_small ds h.1)
 
 abbrev NameBytes : List ℕ → Type 0
-NameBytes = All (λ b. in_name b ≡ true)
+NameBytes = AllByRecursion (λ b. in_name b ≡ true)
 
 name_bytes : (w : List ℕ) → IsName w → NameBytes w
 name_bytes [] h = absurd h

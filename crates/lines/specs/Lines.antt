@@ -1,7 +1,7 @@
 -- The lawful lines of the log, and where a line that is none goes wrong.
 use Rattle.std.specs.Prelude.{◌≡◌, ℕ, suc, ◌<◌, ◌≤◌, true, ◌≢◌, ◌⊎◌, List, [], ◌∷◌, ◌++◌, length, take, codes}
 use Rattle.std.specs.Str.Parse.{digits_value}
-use Rattle.std.specs.List.{AllByRecursion as All}
+use Rattle.std.specs.List.{AllByRecursion}
 use Rattle.tokens.specs.Tokens.{byte, letter, digit, in_name}
 
 -- what a line asks for: the begin of an operation with a rank, the end of an operation, the withdrawal of a ticket
@@ -13,7 +13,7 @@ pub data Meaning : Type 0 where
 -- one byte or more, at most so many: the first is of one kind, the others are of another
 abbrev pub Row : (ℕ → Type 0) → (ℕ → Type 0) → ℕ → List ℕ → Type 0
 Row First Other most [] = ⊥
-Row First Other most (b ∷ bs) = First b × All Other bs × (length (b ∷ bs) ≤ most)
+Row First Other most (b ∷ bs) = First b × AllByRecursion Other bs × (length (b ∷ bs) ≤ most)
 
 -- a name is a letter, then letters and digits, 16 bytes at most
 abbrev pub IsName : List ℕ → Type 0

@@ -134,24 +134,25 @@ fn show_full_room<R: Room + Drop>(rt: &HostRuntime) -> io::Result<()> {
         return println!(rt; "no run");
     };
     let first = refusal(run.begin(0, 9));
-    let mut refused = 0;
+    let mut refused = 0u32;
     for _ in 0..256 {
         if refusal(run.begin(1, 5)) > 0 {
-            refused += 1;
+            refused = refused.saturating_add(1);
         }
     }
     let last = refusal(run.begin(1, 5));
-    println!(rt; "room: {first}, {refused} of 256 refused, the 257th: {last}")?;
     let short = refusal(run.end(0, &mut [NOBODY; 255]));
     let mut list = [NOBODY; 257];
     let let_in = run.end(0, &mut list).unwrap_or(0);
     let oldest = list[0].ticket;
     let youngest = list[255].ticket;
     let rest = list[256].ticket;
+    let totals = run.close();
+    println!(rt; "room: {first}, {refused} of 256 refused, the 257th: {last}")?;
     println!(rt;
         "list: {short}, then {let_in} let in, {oldest} to {youngest}, behind them {rest}"
     )?;
-    show_totals(rt, run.close())
+    show_totals(rt, totals)
 }
 
 // A million begins are accepted, and no more.
@@ -159,10 +160,12 @@ fn show_million(rt: &HostRuntime) -> io::Result<()> {
     let Some(mut run) = opened::<RankRoom>(b"path a end") else {
         return println!(rt; "no run");
     };
-    let mut refused = 0;
+    let mut refused = 0u32;
     for _ in 0..1_000_000 {
-        if refusal(run.begin(0, 0)) + refusal(run.end(0, &mut [])) > 0 {
-            refused += 1;
+        let begun = refusal(run.begin(0, 0));
+        let ended = refusal(run.end(0, &mut []));
+        if begun > 0 || ended > 0 {
+            refused = refused.saturating_add(1);
         }
     }
     let unknown = refusal(run.begin(1, 10));
@@ -171,10 +174,11 @@ fn show_million(rt: &HostRuntime) -> io::Result<()> {
     let idle = refusal(run.end(0, &mut []));
     let foreign = refusal(run.end(1, &mut []));
     let absent = refusal(run.withdraw(1));
+    let totals = run.close();
     println!(rt;
         "a million: {refused} refused, then {unknown} {rank} {spent} {foreign} {idle} {absent}"
     )?;
-    show_totals(rt, run.close())
+    show_totals(rt, totals)
 }
 
 // The number of a refused print, 0 for none.

@@ -1,7 +1,7 @@
 -- A text is laid out as its tokens, and in no other way.
 use Rattle.std.proofs.Common.{◌≡◌, ℕ, suc, ◌+◌, ◌<◌, ◌≤◌, Bool, true, false, cond, leb, List, [], ◌∷◌, ◌++◌, length, take, sym, refl, ap, ◌∙◌, subst, inl, inr, arith}
 use lib.Seq.{take-length, take-append-le}
-use Rattle.std.specs.List.{prefix_len, AllByRecursion as All}
+use Rattle.std.specs.List.{prefix_len, AllByRecursion}
 use Rattle.std.proofs.lemmas.Bool.{both_ways, leb-true, leb-false, le-leb, lt-leb}
 use Rattle.tokens.specs.declared.Kind.{Kind}
 use Rattle.tokens.specs.declared.Token.{Token}
@@ -10,7 +10,7 @@ use Rattle.rules.specs.Laid.{Letter, LetterOrDigit, NoneFirst, Word, Spelled, by
 use Rattle.rules.proofs.Bytes.{Is, byte_is, blank_byte, sign_byte, letter_byte, blank_apart, sign_apart, inside, outside, starts, starts_none, kind_of, one_kind}
 
 -- ---- a layout is the row of tokens
-leading_row : (row after : List ℕ) → All LetterOrDigit row → NoneFirst after → prefix_len in_name (row ++ after) ≡ length row
+leading_row : (row after : List ℕ) → AllByRecursion LetterOrDigit row → NoneFirst after → prefix_len in_name (row ++ after) ≡ length row
 leading_row [] [] a r = refl
 leading_row [] (b ∷ bs) a r = ap (λ (x : Bool). cond x (1 + prefix_len in_name bs) 0) (outside b r)
 leading_row (c ∷ row) after a r =
@@ -36,7 +36,7 @@ leaves other p bs rest e = refl
 leaves (sign k) p bs rest e = refl
 
 -- within a word, the tokens behind it
-through : (p : ℕ) (row after : List ℕ) → All LetterOrDigit row → NoneFirst after → row_from true p (row ++ after) ≡ row_from false (p + length row) after
+through : (p : ℕ) (row after : List ℕ) → AllByRecursion LetterOrDigit row → NoneFirst after → row_from true p (row ++ after) ≡ row_from false (p + length row) after
 through p [] [] a r = refl
 through p [] (b ∷ bs) a r =
     let e : p ≡ p + 0 = omega arith in
@@ -104,7 +104,7 @@ record Cut (p : ℕ) (bs : List ℕ) : Type 0 where
   row : List ℕ
   after : List ℕ
   is : bs ≡ row ++ after
-  front : All LetterOrDigit row
+  front : AllByRecursion LetterOrDigit row
   reach : NoneFirst after
   behind : SomeLaid (p + length row) after
 

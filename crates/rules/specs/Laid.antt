@@ -1,6 +1,6 @@
 -- A text as a row of blanks and tokens, as far as it is one.
 use Rattle.std.specs.Prelude.{◌≡◌, ℕ, suc, ◌+◌, ◌<◌, ◌≤◌, ◌≢◌, ◌⊎◌, List, [], ◌∷◌, ◌++◌, length, codes}
-use Rattle.std.specs.List.{AllByRecursion as All}
+use Rattle.std.specs.List.{AllByRecursion}
 use Rattle.tokens.specs.declared.Kind.{Kind}
 use Rattle.tokens.specs.declared.Kind.TheVariants.{Semicolon, Comma, RoundOpen, RoundClose, BraceOpen, BraceClose, Path, End, Name}
 use Rattle.tokens.specs.declared.Token.{Token}
@@ -43,7 +43,7 @@ pub record StartsNone (b : ℕ) : Type 0 where
 -- a letter, and then letters and digits
 abbrev pub LetterFirst : List ℕ → Type 0
 LetterFirst [] = ⊥
-LetterFirst (b ∷ bs) = Letter b × All LetterOrDigit bs
+LetterFirst (b ∷ bs) = Letter b × AllByRecursion LetterOrDigit bs
 
 -- the first of these bytes, if there is one, is no letter and no digit
 abbrev pub NoneFirst : List ℕ → Type 0

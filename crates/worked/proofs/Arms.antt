@@ -1,6 +1,6 @@
 -- The log of the arm text, ruled from the definitions.
 use Rattle.std.proofs.Common.{◌≡◌, ℕ, zero, suc, ◌+◌, ◌<◌, ◌≤◌, Bool, true, false, not, ◌&&◌, T, eqb, ◌≢◌, List, [], ◌∷◌, ◌++◌, length, get_or, take, Ok, Err, codes, Decides, Result, sym, refl, ap, subst, inl, append_assoc, arith, lit<, lit≤}
-use Rattle.std.specs.List.{AllByRecursion as All}
+use Rattle.std.specs.List.{AllByRecursion}
 use Rattle.std.specs.Str.Parse.{digits_value}
 use Rattle.std.specs.Fmt.{digits}
 use Rattle.std.proofs.lemmas.Bool.{eqb-false, and_parts, not-true}
@@ -41,7 +41,7 @@ abbrev no_ten : List ℕ → Bool
 no_ten [] = true
 no_ten (b ∷ bs) = not (eqb b 10) && no_ten bs
 
-no_tens : (bs : List ℕ) → no_ten bs ≡ true → All (λ b. b ≢ 10) bs
+no_tens : (bs : List ℕ) → no_ten bs ≡ true → AllByRecursion (λ b. b ≢ 10) bs
 no_tens [] e = tt
 no_tens (b ∷ bs) e = let p = and_parts (not (eqb b 10)) (no_ten bs) e in (eqb-false b 10 (not-true (eqb b 10) p.0), no_tens bs p.1)
 

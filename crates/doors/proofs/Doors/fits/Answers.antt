@@ -1,5 +1,5 @@
 use Rattle.std.proofs.Common.{◌<◌, ◌≤◌, true, false, length, Decides, sym, refl, ap, subst, arith}
-use Rattle.std.specs.List.{AllByRecursion as All}
+use Rattle.std.specs.List.{AllByRecursion}
 use Rattle.std.proofs.ByRecursion.{All-more, All-get_or}
 use Rattle.std.proofs.lemmas.List.{take_all}
 use Rattle.std.proofs.lemmas.Bool.{false≢true}
@@ -21,7 +21,7 @@ returns-then-not-lets_in c =
     let d = c.args.self.now in
     let xs = row d.rows c.args.operation in
     let lt : c.loop-i.i < length xs = omega (arith, c.count-i-end.ensures.count, c.loop-i-test.true) in
-    let shut : Decides false (All (Lets d.levels) xs) = (
+    let shut : Decides false (AllByRecursion (Lets d.levels) xs) = (
       (λ e. absurd (false≢true e)),
       (λ all. c.if-not-lets_in.ensures.decides.1
           (subst (Lets d.levels) (sym c.at.ensures.shown) (All-get_or (Lets d.levels) xs c.loop-i.i c.at.result lt all))),
@@ -37,6 +37,6 @@ returns c =
     let d = c.args.self.now in
     let xs = row d.rows c.args.operation in
     let all : length xs ≤ c.loop-i.i = omega (arith, c.count-i-end.ensures.count, c.loop-i-test.false) in
-    let open_all : Decides true (All (Lets d.levels) xs) =
-    ((λ _. subst (All (Lets d.levels)) (take_all c.loop-i.i xs all) c.loop-i.invariant), (λ _. refl)) in
+    let open_all : Decides true (AllByRecursion (Lets d.levels) xs) =
+    ((λ _. subst (AllByRecursion (Lets d.levels)) (take_all c.loop-i.i xs all) c.loop-i.invariant), (λ _. refl)) in
     record { doors = fits_doors d c.args.operation true open_all; text = fits_text d c.args.operation true open_all; unknown = λ _. refl }

@@ -5,7 +5,6 @@ use borrow.Author.Tests.{both_ways}
 use Rattle.table.specs.Contents.{contents}
 use Rattle.paths.specs.Grammar.{Terminal, semicolon, comma, round_open, round_close, brace_open, brace_close, path, end, word}
 use Rattle.paths.specs.Words.{among}
-use Rattle.paths.specs.Sizes.{paths}
 use Rattle.tokens.specs.declared.Kind.{Kind}
 use Rattle.tokens.specs.declared.Kind.TheVariants.{Semicolon, Comma, RoundOpen, RoundClose, BraceOpen, BraceClose, Path, End, Name}
 use Rattle.tokens.specs.declared.Token.{Token}

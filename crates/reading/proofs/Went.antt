@@ -8,7 +8,7 @@ use Rattle.paths.specs.Sizes
 use Rattle.tokens.specs.declared.Token.{Token}
 use Rattle.tokens.specs.declared.Name.{Name as First}
 use Rattle.tokens.specs.declared.BytesFault.TheVariants.{TooLong, NoToken, LongName}
-use Rattle.tokens.specs.Tokens.{Stop, at_end, no_token, long_name, stopped, row_of, tokens}
+use Rattle.tokens.specs.Tokens.{Stop, at_end, no_token, long_name, stopped, row_of}
 use Rattle.tokens.specs.Reader as reader
 use Rattle.rules.specs.Names.{with_first, firsts, terminal, terminals}
 use Rattle.rules.specs.Rules.{opening, closing, names_of, own_with, own_from, begins_sentence, Kept, Told}

@@ -10,7 +10,7 @@ use Rattle.tokens.specs.declared.Kind.{Kind}
 use Rattle.tokens.specs.declared.Kind.TheVariants.{Semicolon, Comma, RoundClose, BraceClose}
 use Rattle.tokens.specs.declared.Token.{Token}
 use Rattle.tokens.specs.declared.Name.{Name as First}
-use Rattle.tokens.specs.Tokens.{at_end, stopped, row_of, tokens, spelling, number_of}
+use Rattle.tokens.specs.Tokens.{at_end, stopped, row_of, spelling, number_of}
 use Rattle.tokens.specs.Reader as reader
 use Rattle.rules.specs.Names.{with_first, firsts, terminal_of, terminal, terminals}
 use Rattle.rules.specs.Rules.{opening, closing, opened, closed, names_of, own_with, own_from, Kept}

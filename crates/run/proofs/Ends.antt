@@ -7,7 +7,7 @@ use Rattle.rooms.specs.declared.entry.Entry.{Entry}
 use Rattle.rooms.specs.Entries.{In}
 use Rattle.run.specs.declared.answer.LetIn.{LetIn}
 use Rattle.run.specs.Memory.{View, Account, Matches, account, Distinct, with_end, with_chosen, GoneOut, Admitted, Nobody, Carries}
-use Rattle.run.specs.Records.{Record, end, Rule, waiting, history, remembered, accepted, let_in, ended, withdrawn, without_all, letting_in, remembered_chosen}
+use Rattle.run.specs.Records.{Record, end, Rule, waiting, history, remembered, without_all, letting_in, remembered_chosen}
 use Rattle.run.specs.Says.{Choice, Settled, nobody}
 use Rattle.run.proofs.Sets.{entry_found, in_without_all, without_all_push, remembered_push}
 use Rattle.run.proofs.Steps.{Blind, Sound, step_end, step_chosen, chosen, nobody_joins}

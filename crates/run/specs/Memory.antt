@@ -1,5 +1,5 @@
 -- The run's memory against the records.
-use Rattle.std.specs.Prelude.{◌≡◌, ℕ, ◌+◌, ◌-◌, ◌^◌, ◌<◌, ◌≤◌, min, Bool, false, ◌⊎◌, ◌↔◌, List, [], ◌∷◌, ◌++◌, length, set, Some, None, Ok, Err, Decides, Option, Result, slice_index, slice_set}
+use Rattle.std.specs.Prelude.{◌≡◌, ℕ, ◌+◌, ◌-◌, ◌^◌, ◌<◌, ◌≤◌, min, Bool, false, ◌⊎◌, ◌↔◌, List, [], ◌∷◌, ◌++◌, length, Some, None, Ok, Err, Decides, Option, Result, slice_index, slice_set}
 use Rattle.paths.specs.Grammar.{Text}
 use Rattle.paths.specs.Words.{⊕, ⊖, History}
 use Rattle.paths.specs.Doors.{begun as begun_in, ended as ended_in}

@@ -134,10 +134,13 @@ mod tests {
         assert_eq!(rt; largest(&mut text), 4900);
         let mut page = [b'#'; 16384];
         assert_eq!(rt; print_text(&text, &mut page), 10312);
-        assert_eq!(rt; &page[0..34], b"0 abcdefghijklmnaa in 0/0 out 1/0\n");
+        assert_eq!(rt;
+            &page[0..34],
+            b"0 abcdefghijklmnaa in 0/0 out 1/0\n".as_slice()
+        );
         assert_eq!(rt;
             &page[10270..10313],
-            b"3 abcdefghijklmndp in 255/255 out 192/255\n#"
+            b"3 abcdefghijklmndp in 255/255 out 192/255\n#".as_slice()
         );
     }
 

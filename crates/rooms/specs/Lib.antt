@@ -4,3 +4,4 @@ pub mod First
 pub mod Taken
 pub mod Sets
 pub mod Best
+pub mod Laws

@@ -3,7 +3,7 @@ ghost use Rattle.std.specs.Prelude.{◌≡◌, ◌+◌, ◌<◌, ◌≤◌, fals
 ghost use Rattle.rooms.specs.Entries.{Ticketed, Left, Joined, Apart, allows};
 ghost use Rattle.rooms.specs.First.{First, Best};
 ghost use Rattle.rooms.specs.Taken.{taken, at, Found, Chosen};
-ghost use Rattle.std.proofs.Common.{arith, rules};
+ghost use Rattle.rooms.specs.Laws.{one_to_256, taken_within, within_places, first_sound};
 ghost use Rattle.rooms.specs.Sets.{no_twice, one_entry};
 ghost use Rattle.rooms.specs.Best.{first_some};
 
@@ -109,13 +109,13 @@ impl<O: Order> Room for Kept<O> {
 
     ghost chooses = { λ m. First (O.Order.first m) };
 
-    ghost bounded = { first_of (Prim.search rules, Prim.grind (arith, Self.row.coded.inj)) };
+    ghost bounded = { one_to_256 };
 
-    ghost within = { first_of (Prim.search rules, Prim.grind (arith, Self.row.coded.inj)) };
+    ghost within = { λ s. taken_within s.places.items s.places.used s.long s.few };
 
-    ghost distinct = { λ s. no_twice s.places.items s.places.used (omega arith) s.distinct };
+    ghost distinct = { λ s. no_twice s.places.items s.places.used (within_places s.places.items s.places.used s.long s.few) s.distinct };
 
-    ghost sound = { first_of (Prim.search rules, Prim.grind (arith, Self.row.coded.inj)) };
+    ghost sound = { λ m. first_sound (O.Order.first m) };
 
     ghost complete = { λ m l a. first_some (O.Order.first m) (O.Order.total m) (O.Order.transitive m) l a };
 

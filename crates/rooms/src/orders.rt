@@ -1,7 +1,7 @@
 // The orders by age and by rank, which remember nothing.
 ghost use Rattle.std.specs.Prelude.{◌≡◌};
 ghost use Rattle.rooms.specs.First.{by_age, by_rank};
-ghost use Rattle.std.proofs.Common.{rules};
+ghost use Rattle.rooms.specs.Laws.{by_age-total, by_age-transitive, by_age-strict, by_rank-total, by_rank-transitive, by_rank-strict};
 
 use crate::entry::Entry;
 use crate::order::Order;
@@ -26,11 +26,11 @@ impl Order for Age {
 
     ghost first = { λ _. by_age };
 
-    ghost total = { Prim.search rules };
+    ghost total = { λ _. by_age-total };
 
-    ghost transitive = { Prim.search rules };
+    ghost transitive = { λ _. by_age-transitive };
 
-    ghost strict = { Prim.search rules };
+    ghost strict = { λ _. by_age-strict };
 
     fn new() -> Age {
         Age
@@ -56,11 +56,11 @@ impl Order for Rank {
 
     ghost first = { λ _. by_rank };
 
-    ghost total = { Prim.search rules };
+    ghost total = { λ _. by_rank-total };
 
-    ghost transitive = { Prim.search rules };
+    ghost transitive = { λ _. by_rank-transitive };
 
-    ghost strict = { Prim.search rules };
+    ghost strict = { λ _. by_rank-strict };
 
     fn new() -> Rank {
         Rank

@@ -7,7 +7,6 @@ use page::SmallPage;
 use print::{print_doors, print_fault};
 use reading::ReadFault;
 use reading::text::read;
-use rooms::order::Order;
 use rooms::waiting::Room;
 use rooms::{AgeRoom, RankRoom};
 use run::answer::{LetIn, Totals};

@@ -2,7 +2,6 @@
 #![tactic(auto)]
 
 use doors::{Door, Occurrence};
-use rooms::order::Order;
 use rooms::waiting::Room;
 use rooms::{AgeRoom, RankRoom};
 use run::answer::{Begun, LetIn};

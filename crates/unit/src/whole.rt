@@ -12,7 +12,6 @@ use input::{check_input, split};
 use reading::Read;
 use reading::text::read;
 use rooms::RankRoom;
-use rooms::order::Order;
 use rooms::waiting::Room;
 use run::state::Run;
 use std::alloc::{AllocError, Global};

@@ -24,7 +24,7 @@ Enters (at q) o = semaphore_of o.left ≡ semaphore_of q
 Enters (inside p) o = ⊥
 Enters (amid c N f) o = ((i : ℕ) × (o.left ≡ counted i c)) ⊎ ((k j : ℕ) × (f k ≡ waiting j) × (semaphore_of o.left ≡ j))
 
--- u goes on with the letting_in of o
+-- u goes on with the letting-in of o
 abbrev pub Entered : Core → Door → Door → ℕ → ℕ → History → Occurrence → Type 0
 Entered t l r s c u o = (n : Node) × Now t l r s c (u ++ (⊕ o.operation ∷ [])) n × (Simple t → n ≡ inside o)
 

@@ -111,7 +111,7 @@ left_by (plain s) σ = record { semaphore = raised s σ.semaphore; counter = σ.
 left_by (counted s c) σ = record
     { semaphore = cond (eqb (σ.counter c - 1) 0) (raised s σ.semaphore) σ.semaphore; counter = lowered c σ.counter }
 
--- a letting_in goes in by the left door, an end leaves by the right one
+-- a letting-in goes in by the left door, an end leaves by the right one
 abbrev pub passed : Event → Occurrence → Standing → Standing
 passed (⊕ a) o σ = gone_in o.left σ
 passed (⊖ a) o σ = left_by o.right σ
@@ -147,7 +147,7 @@ ended a (⊕ b ∷ h) = ended a h
 ended a (⊖ b ∷ h) = cond (eqb a b) (1 + ended a h) (ended a h)
 
 -- The doors of a path tell what fits it. After a history h that fits, for an operation a of the path: its left door is open exactly when
--- h with its letting_in fits; its end fits exactly when it runs; and its doors alone are passed by its letting_in and by its end.
+-- h with its letting-in fits; its end fits exactly when it runs; and its doors alone are passed by its letting-in and by its end.
 pub record DoorsTell (p : Sequence) (n s c : ℕ) (h : History) (a : ℕ) : Type 0 where
   pub opens : OpenTo a (path_doors p n s c) (after (path_doors p n s c) (opening s) h) ↔ Fits p (h ++ (⊕ a ∷ []))
   pub ends : (ended a h < begun a h) ↔ Fits p (h ++ (⊖ a ∷ []))

@@ -38,7 +38,7 @@ abbrev pub standing : Text → History → Standing
 standing t h = after (text_doors t 0 0 0) (text_opening t) h
 
 -- The doors of a text tell what fits it. After a history h that fits every path, for an operation a: all its left doors are open exactly when
--- h with its letting_in fits every path; if it is a name of the text, its end fits every path exactly when it runs; and going in by all its
+-- h with its letting-in fits every path; if it is a name of the text, its end fits every path exactly when it runs; and going in by all its
 -- left doors, or leaving by all its right doors, gives the standing of the longer history.
 pub record TextDoorsTell (t : Text) (h : History) (a : ℕ) : Type 0 where
   pub opens : OpenTo a (text_doors t 0 0 0) (standing t h) ↔ FitsAll t (h ++ (⊕ a ∷ []))

@@ -2,7 +2,7 @@
 use Rattle.std.specs.Prelude.{◌≡◌, ◌⊎◌, ◌≢◌, Bool, true, false, cond, List, [], ◌∷◌, ◌++◌, map, ℕ, suc, max, ◌≤◌, eqb}
 use Rattle.paths.specs.Grammar.{Sequence, Selection, Element, last, ◌⨟◌, only, ◌or◌, name, round, brace}
 
--- ⊕ a, the letting_in of operation a, and ⊖ a, its end
+-- ⊕ a, the letting-in of operation a, and ⊖ a, its end
 pub data Event : Type 0 where
   ⊕ : ℕ → Event
   ⊖ : ℕ → Event

@@ -41,7 +41,7 @@ impl<O: Order> Kept<O> {
 
     // Adds an entry whose ticket is new.
     fn add(&mut self, e: Entry)
-        requires { ((Ticketed e.ticket (taken self.old.places) → ⊥)) × (self.old.places.used < 256) }
+        requires { (Ticketed e.ticket (taken self.old.places) → ⊥) × (self.old.places.used < 256) }
         ensures joined { Joined e (taken self.old.places) (taken self.new.places) }
         ensures order { self.new.order ≡ self.old.order }
     {

@@ -48,7 +48,7 @@ begun_few a (⊖ b ∷ h) = begun_few a h
 
 -- ---- as many ends as letting-ins, at most
 
--- h without the first letting_in of a
+-- h without the first letting-in of a
 minus : ℕ → History → History
 minus a [] = []
 minus a (⊕ b ∷ h) = cond (eqb a b) h (⊕ b ∷ minus a h)

@@ -65,7 +65,7 @@ history_begun (Err f) a h = h
 abbrev pub letting_in : List Entry → LetIn → Event
 letting_in xs l = ⊕ (entry_of xs l.ticket).operation
 
--- an end of a that is not refused adds ⊖ a, then the letting_in of each in the list's front, in that order
+-- an end of a that is not refused adds ⊖ a, then the letting-in of each in the list's front, in that order
 abbrev pub history_ended : Result ℕ RunFault → ℕ → List LetIn → List Entry → History → History
 history_ended (Ok n) a ls xs h = (h ++ (⊖ a ∷ [])) ++ map (letting_in xs) ls
 history_ended (Err f) a ls xs h = h

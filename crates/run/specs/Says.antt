@@ -17,7 +17,7 @@ use Rattle.run.specs.Records.{Record, begin, end, withdraw, Rule, waiting, histo
 abbrev pub Known : Text → ℕ → Type 0
 Known t a = among a (names_of_text t) ≡ true
 
--- the history, with the letting_in of a behind it, fits every path
+-- the history, with the letting-in of a behind it, fits every path
 abbrev pub Joins : Text → History → ℕ → Type 0
 Joins t h a = FitsAll t (h ++ (⊕ a ∷ []))
 

@@ -1,9 +1,7 @@
 -- The number of a name, found by going through those known.
-use Rattle.std.proofs.Common.{◌≡◌, ℕ, ◌+◌, ◌-◌, ◌<◌, ◌≤◌, min, Bool, true, false, not, leb, ◌⊎◌, List, length, get_or, take, drop, Decides, sym, refl, ap, ◌∙◌, inl, inr, arith, length-drop, length-take, leb-false, leb-true}
+use Rattle.std.proofs.Common.{◌≡◌, ℕ, ◌+◌, ◌-◌, ◌<◌, ◌≤◌, min, Bool, true, false, not, leb, ◌⊎◌, List, length, get_or, take, drop, sym, refl, ap, ◌∙◌, inl, inr, arith, length-drop, length-take, leb-false, leb-true}
 use Rattle.std.proofs.lemmas.List.{take_rest, take_all, drop_all}
 use Rattle.std.specs.Str.{bytes_eq}
-use Rattle.std.proofs.lemmas.Bool.Decides.{same_from_decides}
-use Rattle.std.proofs.lemmas.Slice.Eq.{bytes_eq-Decides}
 use Rattle.std.proofs.lemmas.List.Sums.{prefix_len-drop_yes, prefix_len-drop_no, prefix_len-drop_all}
 use Rattle.tokens.specs.declared.Name.{Name}
 use Rattle.tokens.specs.Tokens.{spelled, number_of}
@@ -23,9 +21,6 @@ module _ (text : List ℕ) (w : List ℕ) (ks : List Name) (n : ℕ) (inv : n + 
   pub all_known : length ks ≤ n → n ≡ number_of text ks w
   unfolding other
   all_known l = let z = prefix_len-drop_all other ks n l in omega arith
-
-pub alike_told : (xs ys : List ℕ) (r : Bool) → Decides r (xs ≡ ys) → r ≡ bytes_eq xs ys
-alike_told xs ys r d = same_from_decides r (bytes_eq xs ys) d (bytes_eq-Decides xs ys)
 
 either : (a b : ℕ) → (a ≤ b) ⊎ (b ≤ a)
 either a b = go (leb a b) refl

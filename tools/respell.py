@@ -5,7 +5,7 @@ usage: python3 tools/respell.py        at the top of the repository
 
 A word is in snake case, a type or a relation in upper camel case. A name that the kit's library gives, or that the
 check makes of the code (a goal, a step, a field of a step), keeps its spelling. The crate `log` is renamed: the kit
-has a library of that name. Names that would fall together are printed, and get the spelling in SPECIAL.
+has a library of that name. Names that would fall together are printed.
 """
 
 import os
@@ -22,12 +22,9 @@ ALIAS = re.compile(rf"\bas ({NAME})")
 GOAL = re.compile(r"^\s*(?:(?:unfoldable|abbrev|pub)\s+)*([A-Za-z][\w'-]*)\s*:\s*(?:goal|need|given|Given|Goals)\.", re.M)
 USE = re.compile(r"^(?:ghost |pub )*use ([^\s{;]+?)\.?(?:\{([^}]*)\})?(?: as [^\s;]+)?;?$", re.M)
 OWN_FOLDER = re.compile(r"crates/\w+/(?:specs/.*|proofs/[A-Z]\w*)\.antt$")
-SPECIAL = {}
 
 
 def spelled(name):
-    if name in SPECIAL:
-        return SPECIAL[name]
     parts = name.split("-")
     if name[0].isupper():
         return "".join(p[:1].upper() + p[1:] for p in parts)

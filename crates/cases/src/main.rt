@@ -3,6 +3,9 @@
 // In a piece `\n`, `\t`, `\r` and `\xHH` stand for a byte.
 #![tactic(auto)]
 
+ghost use Rattle.std.specs.Prelude.{◌<◌, length};
+ghost use Rattle.std.specs.Iterator.{at_most};
+
 use std::alloc::{AllocError, Global};
 use std::io;
 use std::io::{Read, Write};
@@ -11,8 +14,10 @@ use unit::rule_on;
 // A longer output is told by its length, a checksum and its last bytes.
 const SHOWN: usize = 1_500;
 
-// The value of a digit to the base 16.
-fn hex(b: u8) -> u8 {
+// The value of a digit to the base 16, 0 for another byte.
+fn hex(b: u8) -> u8
+    ensures { result < 16 }
+{
     match b {
         b'0'..=b'9' => b - b'0',
         b'a'..=b'f' => b - b'a' + 10,
@@ -20,62 +25,57 @@ fn hex(b: u8) -> u8 {
     }
 }
 
-// The byte at the front of a piece, and with how many bytes it is written.
-fn byte_at(rest: &[u8]) -> (u8, usize) {
-    match rest {
-        [b'\\', b'n', ..] => (b'\n', 2),
-        [b'\\', b't', ..] => (b'\t', 2),
-        [b'\\', b'r', ..] => (b'\r', 2),
-        [b'\\', b'x', high, low, ..] => ((hex(*high) & 15) * 16 + (hex(*low) & 15), 4),
-        [first, ..] => (*first, 1),
-        [] => (0, 1),
+// The bytes that a piece stands for.
+#[derive(Drop)]
+struct Bytes<'a>(&'a [u8]);
+
+impl Iterator for Bytes<'_> {
+    type Item = u8;
+
+    ghost remaining = { λ s. at_most (length s.0.now) };
+
+    fn next(&mut self) -> Option<u8> {
+        let (b, rest) = match self.0 {
+            [b'\\', b'n', rest @ ..] => (b'\n', rest),
+            [b'\\', b't', rest @ ..] => (b'\t', rest),
+            [b'\\', b'r', rest @ ..] => (b'\r', rest),
+            [b'\\', b'x', high, low, rest @ ..] => (hex(*high) * 16 + hex(*low), rest),
+            [first, rest @ ..] => (*first, rest),
+            [] => return None,
+        };
+        self.0 = rest;
+        Some(b)
     }
 }
 
-// Writes a piece once.
-fn write_piece(out: &mut Vec<u8>, piece: &[u8]) -> Result<(), AllocError> {
-    let mut skip = 0usize;
-    for at in 0..piece.len() {
-        if skip > 0 {
-            skip -= 1;
-        } else {
-            let (b, len) = byte_at(&piece[at..]);
-            out.push(b)?;
-            skip = len.saturating_sub(1);
-        }
+// How often a piece is written, and what is.
+fn repeated(piece: &str) -> (u32, &str) {
+    if let Some((count, part)) = piece.split_once('*')
+        && let Ok(count) = count.parse()
+    {
+        return (count, part);
     }
-    Ok(())
-}
-
-// Writes a piece as often as it says.
-fn write_pieces(out: &mut Vec<u8>, piece: &str) -> Result<(), AllocError> {
-    if let Some((count, part)) = piece.split_once('*') {
-        if let Ok(n) = count.parse::<u32>() {
-            for _ in 0..n {
-                write_piece(out, part.as_bytes())?;
-            }
-            return Ok(());
-        }
-    }
-    write_piece(out, piece.as_bytes())
+    (1, piece)
 }
 
 // The input that a case stands for.
 fn input_of(heap: Global, case: &str) -> Result<Vec<u8>, AllocError> {
     let mut input = Vec::new(heap);
     for piece in case.split('|') {
-        write_pieces(&mut input, piece)?;
+        let (count, part) = repeated(piece);
+        for _ in 0..count {
+            input.extend(Bytes(part.as_bytes()))?;
+        }
     }
     Ok(input)
 }
 
 // A sum that depends on every byte and its place.
 fn checksum(bytes: &[u8]) -> u32 {
-    let mut sum = 0u32;
-    for b in bytes {
-        sum = sum.wrapping_mul(31).wrapping_add(u32::from(*b));
-    }
-    sum
+    bytes.iter().fold(
+        0u32,
+        |sum, b| sum.wrapping_mul(31).wrapping_add(u32::from(*b)),
+    )
 }
 
 fn show(rt: &HostRuntime, output: &[u8]) -> io::Result<()> {

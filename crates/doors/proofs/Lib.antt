@@ -1,4 +1,3 @@
-mod Places
 mod Standings
 mod Fitting
-mod Opened
+pub mod Opened

@@ -4,7 +4,8 @@ use mathlib.Core.List.Memᴰ
 use mathlib.Core.List.{Memᴰ}
 use Rattle.std.proofs.lemmas.List.Elements.{filter_more}
 use Rattle.std.proofs.lemmas.List.{map_more, take_all, take-map}
-use Rattle.std.proofs.lemmas.Bool.{cases_lt, ne_eqb}
+use Rattle.std.proofs.lemmas.Bool.{cases_lt, lt-ltb}
+use Rattle.std.proofs.lemmas.Bool.Decides.{nat_tests}
 use Rattle.paths.specs.Grammar.{Text, one, more}
 use Rattle.paths.specs.Words.{names_of_sequence}
 use Rattle.paths.specs.Doors.{Occurrence as TheOccurrence, Standing, semaphore_of, path_doors, semaphores_in_sequence, counters_in_sequence}
@@ -17,7 +18,6 @@ use Rattle.doors.specs.declared.Occurrence.{Occurrence}
 use Rattle.doors.specs.declared.Doors.{Doors}
 use Rattle.doors.specs.Told.{told, all_told}
 use Rattle.doors.specs.Memory.{standing_of, row, room, of_operation, with_open, begins, Tells, Limited}
-use Rattle.doors.proofs.Places.{room_known}
 
 -- the occurrences of operation a, in order
 abbrev own : ℕ → List Occurrence → List Occurrence
@@ -35,26 +35,19 @@ pub record Kept (xs : List Occurrence) (n : ℕ) (d : Doors) (before : Option �
   pub path : (o : TheOccurrence) → begins_path (all_told (take n xs)) o ≡ begins before o.path
 
 -- ---- one occurrence more
-take_again : (n : ℕ) (xs ys : List Occurrence) → take n (take n xs ++ ys) ≡ take n (xs ++ ys)
+pub take_again : {X : Type 0} (n : ℕ) (xs ys : List X) → take n (take n xs ++ ys) ≡ take n (xs ++ ys)
 take_again zero xs ys = refl
 take_again (suc n) [] ys = refl
-take_again (suc n) (x ∷ xs) ys = ap (λ (l : List Occurrence). x ∷ l) (take_again n xs ys)
+take_again {X} (suc n) (x ∷ xs) ys = ap (λ (l : List X). x ∷ l) (take_again n xs ys)
 
-module _ (xs : List Occurrence) (i : ℕ) (x : Occurrence) (h : i < length xs) (at : x ≡ get_or xs i x) where
-  told_more : all_told (take (i + 1) xs) ≡ all_told (take i xs) ++ told x ∷ []
-  told_more = map_more told xs i x h ∙ ap (λ (y : Occurrence). all_told (take i xs) ++ told y ∷ []) (sym at)
+module _ (xs : List Occurrence) (i : ℕ) (d : Occurrence) (h : i < length xs) where
+  -- the occurrence at i
+  abbrev x : Occurrence
+  x = get_or xs i d
 
   rows_more : (a : ℕ) (before after : List Occurrence) → before ≡ take (room a) (own a (take i xs)) →
       after ≡ cond (eqb a x.operation) (take (room a) (before ++ x ∷ [])) before → after ≡ take (room a) (own a (take (i + 1) xs))
-  rows_more a before after was is =
-      is ∙ ap (λ (l : List Occurrence). cond (eqb a x.operation) (take (room a) (l ++ x ∷ [])) l) was ∙ go (eqb a x.operation)
-      ∙ sym (ap (take (room a)) (filter_more (λ (o : Occurrence). eqb a o.operation) xs i x h
-      ∙ ap (λ (y : Occurrence). own a (take i xs) ++ cond (eqb a y.operation) (y ∷ []) []) (sym at)))
-    where
-      go : (b : Bool) → cond b (take (room a) (take (room a) (own a (take i xs)) ++ x ∷ [])) (take (room a) (own a (take i xs)))
-          ≡ take (room a) (own a (take i xs) ++ cond b (x ∷ []) [])
-      go true = take_again (room a) (own a (take i xs)) (x ∷ [])
-      go false = ap (take (room a)) (sym (append-nil (own a (take i xs))))
+  rows_more a before after was is = grind (arith, take_again (room a) (own a (take i xs)) (x ∷ []), filter_more (λ (o : Occurrence). eqb a o.operation) xs i d h, append-nil (own a (take i xs)))
 
   levels_more : (first : Bool) (before after : Standing) → begins_path (all_told (take i xs)) (told x) ≡ first → before ≡ opened (all_told (take i xs)) →
       after ≡ cond first (with_open (semaphore_of (told x).left) before) before → after ≡ opened (all_told (take (i + 1) xs))
@@ -62,41 +55,35 @@ module _ (xs : List Occurrence) (i : ℕ) (x : Occurrence) (h : i < length xs) (
       let os = all_told (take i xs) in
       let s = semaphore_of (told x).left in
       is ∙ ap (λ (σ : Standing). cond first (with_open s σ) σ) was ∙ ap (λ b. cond b (with_open s (opened os)) (opened os)) (sym begin) ∙ go (begins_path os (told x))
-      ∙ (λ k. record { semaphore = λ j. sym (opened_more os (told x) j) k; counter = λ j. 0 }) ∙ ap opened (sym told_more)
+      ∙ (λ k. record { semaphore = λ j. sym (opened_more os (told x) j) k; counter = λ j. 0 }) ∙ ap opened (sym (map_more told xs i d h))
     where
       go : (b : Bool) → cond b (with_open (semaphore_of (told x).left) (opened (all_told (take i xs)))) (opened (all_told (take i xs)))
           ≡ record { semaphore = λ j. cond b (cond (eqb j (semaphore_of (told x).left)) 1 (opened_by (all_told (take i xs)) j)) (opened_by (all_told (take i xs)) j); counter = λ j. 0 }
       go true = refl
       go false = refl
 
-  pub kept_more : (d d' : Doors) (before : Option ℕ) → Kept xs i d before →
-      ((a : ℕ) → row d'.rows a ≡ cond (eqb a x.operation) (take (room a) (row d.rows a ++ x ∷ [])) (row d.rows a)) →
-      standing_of d'.levels ≡ cond (begins before x.path) (with_open (semaphore_of (told x).left) (standing_of d.levels)) (standing_of d.levels) →
-      Kept xs (i + 1) d' (Some x.path)
-  kept_more d d' before k rows levels = record {
-    rows = λ a. rows_more a (row d.rows a) (row d'.rows a) (k.rows a) (rows a);
-    levels = levels_more (begins before x.path) (standing_of d.levels) (standing_of d'.levels) (k.path (told x)) k.levels levels;
-    path = λ o. ap (λ (os : List TheOccurrence). begins_path os o) told_more ∙ begins_snoc (all_told (take i xs)) (told x) o;
+  pub kept_more : (d₀ d₁ : Doors) (before : Option ℕ) → Kept xs i d₀ before →
+      ((a : ℕ) → row d₁.rows a ≡ cond (eqb a x.operation) (take (room a) (row d₀.rows a ++ x ∷ [])) (row d₀.rows a)) →
+      standing_of d₁.levels ≡ cond (begins before x.path) (with_open (semaphore_of (told x).left) (standing_of d₀.levels)) (standing_of d₀.levels) →
+      Kept xs (i + 1) d₁ (Some x.path)
+  kept_more d₀ d₁ before k rows levels = record {
+    rows = λ a. rows_more a (row d₀.rows a) (row d₁.rows a) (k.rows a) (rows a);
+    levels = levels_more (begins before x.path) (standing_of d₀.levels) (standing_of d₁.levels) (k.path (told x)) k.levels levels;
+    path = λ o. ap (λ (os : List TheOccurrence). begins_path os o) (map_more told xs i d h) ∙ begins_snoc (all_told (take i xs)) (told x) o;
   }
 
 -- ---- all occurrences of a text
 told_own : (a : ℕ) (xs : List Occurrence) → all_told (own a xs) ≡ of_operation a (all_told xs)
 told_own a [] = refl
-told_own a (x ∷ xs) =
-    elim (eqb a x.operation) as (λ b. all_told (cond b (x ∷ own a xs) (own a xs)) ≡ cond b (told x ∷ of_operation a (all_told xs)) (of_operation a (all_told xs)))
-    [ true ↦ ap (λ (os : List TheOccurrence). told x ∷ os) (told_own a xs) | false ↦ told_own a xs ]
+told_own a (x ∷ xs) = grind (arith, told_own a xs)
 
 own_occurring : (a : ℕ) (os : List TheOccurrence) → length (of_operation a os) ≡ occurring a os
 own_occurring a [] = refl
-own_occurring a (o ∷ os) =
-    elim (eqb a o.operation) as (λ b. length (cond b (o ∷ of_operation a os) (of_operation a os)) ≡ cond b (1 + occurring a os) (occurring a os))
-    [ true ↦ omega (arith, own_occurring a os) | false ↦ own_occurring a os ]
+own_occurring a (o ∷ os) = grind (arith, own_occurring a os)
 
 none_occurring : (a : ℕ) (os : List TheOccurrence) → ((o : TheOccurrence) → Memᴰ o os → o.operation < a) → occurring a os ≡ 0
 none_occurring a [] f = refl
-none_occurring a (o ∷ os) f =
-    ap (λ b. cond {A = ℕ} b (1 + occurring a os) (occurring a os)) (ne_eqb a o.operation (λ e. omega (arith, f o (Memᴰ.head refl))))
-    ∙ none_occurring a os (λ p m. f p (Memᴰ.tail m))
+none_occurring a (o ∷ os) f = grind (arith, nat_tests, f o (Memᴰ.head refl), none_occurring a os (λ p m. f p (Memᴰ.tail m)))
 
 text_names : (t : Text) (n s c : ℕ) (o : TheOccurrence) → Memᴰ o (text_doors t n s c) → Memᴰ o.operation (names_of_text t)
 text_names (one p) n s c o m = subst (Memᴰ o.operation) (path_names p n s c) (mem_ops o (path_doors p n s c) m)
@@ -107,6 +94,9 @@ text_names (more p t) n s c o m =
       | inl k ↦ Memᴰ.append_left (names_of_text t) (subst (Memᴰ o.operation) (path_names p n s c) (mem_ops o (path_doors p n s c) k))
       | inr k ↦ Memᴰ.append_right (names_of_sequence p) (text_names t (n + 1) s' c' o k)
     ]
+
+room_known : (a : ℕ) → a < 64 → room a ≡ 32
+room_known a h = ap (λ b. cond {A = ℕ} b 32 0) (lt-ltb a 64 h)
 
 has_room : (t : Text) → Limited t → (a : ℕ) → length (of_operation a (text_doors t 0 0 0)) ≤ room a
 has_room t l a = go (cases_lt a 64)

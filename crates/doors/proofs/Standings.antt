@@ -1,10 +1,11 @@
 -- Passing through the doors of an operation one by one, and what the memory tells then.
-use Rattle.std.proofs.Common.{◌≡◌, ℕ, ◌+◌, ◌-◌, ◌^◌, ◌<◌, ◌≤◌, Bool, true, false, cond, eqb, List, [], ◌∷◌, ◌++◌, length, get_or, take, fold, sym, refl, ap, ◌∙◌, subst, arith}
+use Rattle.std.proofs.Common.{◌≡◌, ℕ, ◌+◌, ◌-◌, ◌^◌, ◌<◌, ◌≤◌, List, [], ◌∷◌, ◌++◌, length, get_or, take, fold, sym, refl, ap, ◌∙◌, subst, arith}
 use Rattle.std.proofs.lemmas.List.{length-take-le}
 use Rattle.std.proofs.lemmas.List.Sums.{fold_more}
+use Rattle.std.proofs.lemmas.Bool.Decides.{nat_tests}
 use Rattle.paths.specs.Grammar.{Text}
-use Rattle.paths.specs.Words.{Event, ⊕, ⊖, operation, History}
-use Rattle.paths.specs.Doors.{Door as TheDoor, plain, counted, Occurrence as TheOccurrence, Standing, lowered, raised, gone_in, left_by, passed, next}
+use Rattle.paths.specs.Words.{Event, operation, History}
+use Rattle.paths.specs.Doors.{Occurrence as TheOccurrence, Standing, passed, next}
 use Rattle.paths.specs.Texts.{EachProper, FitsAll, text_doors, text_opening, standing}
 use Rattle.paths.specs.Runs.{let_in_by}
 use Rattle.paths.proofs.Occs.{after_snoc}
@@ -13,55 +14,21 @@ use Rattle.doors.specs.declared.Occurrence.{Occurrence}
 use Rattle.doors.specs.declared.Rows.{Rows}
 use Rattle.doors.specs.declared.Doors.{Doors}
 use Rattle.doors.specs.Told.{told, all_told}
-use Rattle.doors.specs.Memory.{standing_of, row, of_operation, Holds, AtMost, Low, Tells}
-
--- an occurrence in memory is passed
-abbrev pub through : Event → Standing → Occurrence → Standing
-through e σ o = passed e (told o) σ
+use Rattle.doors.specs.Memory.{standing_of, row, of_operation, Holds, AtMost, Low, through, Passed, Tells}
 
 -- ---- an event passes through the doors of its operation, and no others
 next_folded : (os : List TheOccurrence) (e : Event) (σ : Standing) →
     next os e σ ≡ fold (λ (s : Standing) (o : TheOccurrence). passed e o s) σ (of_operation (operation e) os)
 next_folded [] e σ = refl
-next_folded (o ∷ os) e σ =
-    let F : Standing → TheOccurrence → Standing = λ s p. passed e p s in
-    elim (eqb (operation e) o.operation) as (λ b. next os e (cond b (passed e o σ) σ) ≡ fold F σ (cond b (o ∷ of_operation (operation e) os) (of_operation (operation e) os)))
-    [ true ↦ next_folded os e (passed e o σ) | false ↦ next_folded os e σ ]
+next_folded (o ∷ os) e σ = grind (arith, next_folded os e)
 
 folded_told : (e : Event) (σ : Standing) (xs : List Occurrence) → fold (λ (s : Standing) (o : TheOccurrence). passed e o s) σ (all_told xs) ≡ fold (through e) σ xs
 folded_told e σ [] = refl
 folded_told e σ (x ∷ xs) = folded_told e (through e σ x) xs
 
 -- ---- each door raises a number by one at most
-raised_low : (b : Bool) (x n : ℕ) → x ≤ n → cond b (x + 1) x ≤ n + 1
-raised_low true x n h = omega arith
-raised_low false x n h = omega arith
-
-lowered_low : (b : Bool) (x n : ℕ) → x ≤ n → cond b (x - 1) x ≤ n + 1
-lowered_low true x n h = omega arith
-lowered_low false x n h = omega arith
-
-either_low : (b : Bool) (f g : ℕ → ℕ) (j n : ℕ) → f j ≤ n → g j ≤ n → cond b f g j ≤ n
-either_low true f g j n p q = p
-either_low false f g j n p q = q
-
-in_low : (q : TheDoor) (n : ℕ) (σ : Standing) → AtMost n σ → AtMost (n + 1) (gone_in q σ)
-in_low (plain s) n σ h j = (lowered_low (eqb j s) (σ.semaphore j) n (h j).0, omega (arith, (h j).1))
-in_low (counted s c) n σ h j = (
-  either_low (eqb (σ.counter c) 0) (lowered s σ.semaphore) σ.semaphore j (n + 1) (lowered_low (eqb j s) (σ.semaphore j) n (h j).0) (omega (arith, (h j).0)),
-  raised_low (eqb j c) (σ.counter j) n (h j).1,
-)
-
-out_low : (q : TheDoor) (n : ℕ) (σ : Standing) → AtMost n σ → AtMost (n + 1) (left_by q σ)
-out_low (plain s) n σ h j = (raised_low (eqb j s) (σ.semaphore j) n (h j).0, omega (arith, (h j).1))
-out_low (counted s c) n σ h j = (
-  either_low (eqb (σ.counter c - 1) 0) (raised s σ.semaphore) σ.semaphore j (n + 1) (raised_low (eqb j s) (σ.semaphore j) n (h j).0) (omega (arith, (h j).0)),
-  lowered_low (eqb j c) (σ.counter j) n (h j).1,
-)
-
 passed_low : (e : Event) (o : TheOccurrence) (n : ℕ) (σ : Standing) → AtMost n σ → AtMost (n + 1) (passed e o σ)
-passed_low (⊕ a) o n σ h = in_low o.left n σ h
-passed_low (⊖ a) o n σ h = out_low o.right n σ h
+passed_low e o n σ h j = let k = h j in grind (arith, nat_tests)
 
 folded_low : (e : Event) (xs : List Occurrence) (n : ℕ) (σ : Standing) → AtMost n σ → (j : ℕ) →
     ((fold (through e) σ xs).semaphore j ≤ n + length xs) × ((fold (through e) σ xs).counter j ≤ n + length xs)
@@ -70,21 +37,16 @@ folded_low e (x ∷ xs) n σ h j =
     let k = folded_low e xs (n + 1) (through e σ x) (passed_low e (told x) n σ h) j in (omega arith, omega arith)
 
 -- ---- one door more of those of an operation
-pub passed_more : (e : Event) (before now' then : Standing) (xs : List Occurrence) (i : ℕ) (x : Occurrence) → i < length xs → length xs ≤ 32 → x ≡ get_or xs i x →
-    (Low before → now' ≡ fold (through e) before (take i xs)) → (AtMost (2 ^ 32 - 2) now' → then ≡ passed e (told x) now') →
+pub passed_more : (e : Event) (before now' then : Standing) (xs : List Occurrence) (i : ℕ) (d : Occurrence) → i < length xs → length xs ≤ 32 →
+    (Low before → now' ≡ fold (through e) before (take i xs)) → (AtMost (2 ^ 32 - 2) now' → then ≡ through e now' (get_or xs i d)) →
     Low before → then ≡ fold (through e) before (take (i + 1) xs)
-passed_more e before now' then xs i x h few at inv step low =
+passed_more e before now' then xs i d h few inv step low =
     let was = inv low in
     let bound : AtMost (2 ^ 32 - 2) (fold (through e) before (take i xs)) =
     (λ j. let k = folded_low e (take i xs) 1000001 before low j in let l = length-take-le i xs (omega arith) in (omega arith, omega arith)) in
-    step (subst (AtMost (2 ^ 32 - 2)) (sym was) bound) ∙ ap (passed e (told x)) was
-    ∙ ap (through e (fold (through e) before (take i xs))) at ∙ sym (fold_more (through e) before xs i x h)
+    step (subst (AtMost (2 ^ 32 - 2)) (sym was) bound) ∙ ap (λ σ. through e σ (get_or xs i d)) was ∙ sym (fold_more (through e) before xs i d h)
 
 -- ---- what the memory tells after an event
-pub record Passed (e : Event) (d d' : Doors) : Type 0 where
-  pub rows : d'.rows ≡ d.rows
-  pub levels : Low (standing_of d.levels) → standing_of d'.levels ≡ fold (through e) (standing_of d.levels) (row d.rows (operation e))
-
 pub holds_next : (e : Event) (d d' : Doors) → Passed e d d' → (os : List TheOccurrence) (σ : Standing) → Holds d os σ → Low σ → Holds d' os (next os e σ)
 holds_next e d d' p os σ h low =
     let F : Standing → TheOccurrence → Standing = λ s o. passed e o s in

@@ -1,16 +1,18 @@
 -- What the memory of the doors means: the occurrences of each operation, and how the semaphores and counters stand.
-use Rattle.std.specs.Prelude.{◌≡◌, ℕ, ◌*◌, ◌<◌, ◌≤◌, min, Bool, true, cond, not, List, take, drop, Some, None, filter, Option, ◌==◌, nat_eq, nat_lt, slice_index}
+use Rattle.std.specs.Prelude.{◌≡◌, ℕ, ◌-◌, ◌^◌, ◌<◌, ◌≤◌, Bool, true, cond, not, List, [], Some, None, filter, Option, ◌==◌, nat_eq, nat_lt, slice_index, slice_index_or}
+use Rattle.std.specs.List.{fold}
+use Rattle.std.specs.Borrow.{MutBor}
 use mathlib.Core.List.{Memᴰ}
 use Rattle.paths.specs.Grammar.{Text, yield_text}
-use Rattle.paths.specs.Words.{History}
-use Rattle.paths.specs.Doors.{Occurrence as TheOccurrence, Standing}
+use Rattle.paths.specs.Words.{Event, operation, History}
+use Rattle.paths.specs.Doors.{Occurrence as TheOccurrence, Standing, passed}
 use Rattle.paths.specs.Texts.{text_doors, names_of_text, EachProper, standing}
 use Rattle.paths.specs.Sizes.{how_many, paths}
 use Rattle.doors.specs.declared.Occurrence.{Occurrence}
 use Rattle.doors.specs.declared.Levels.{Levels}
 use Rattle.doors.specs.declared.Rows.{Rows}
 use Rattle.doors.specs.declared.Doors.{Doors}
-use Rattle.doors.specs.Told.{all_told}
+use Rattle.doors.specs.Told.{told, all_told}
 
 -- what number j stands at; 0 behind the last
 abbrev pub level : List ℕ → ℕ → ℕ
@@ -37,9 +39,9 @@ begins (Some other) path = not (path == other)
 abbrev pub room : ℕ → ℕ
 room a = cond (nat_lt a 64) 32 0
 
--- the occurrences of operation a in memory, in order
+-- the occurrences of operation a in memory, in order; behind the last row there are none
 abbrev pub row : Rows → ℕ → List Occurrence
-row r a = take (min (slice_index r.counts a) (room a)) (drop (32 * a) r.places)
+row r a = (slice_index_or r.by_operation a (record { items = [] })).items
 
 -- the occurrences of operation a, in order
 abbrev pub of_operation : ℕ → List TheOccurrence → List TheOccurrence
@@ -57,6 +59,20 @@ AtMost n σ = (j : ℕ) → (σ.semaphore j ≤ n) × (σ.counter j ≤ n)
 -- so low that passing through the doors of an operation overflows no number
 abbrev pub Low : Standing → Type 0
 Low σ = AtMost 1000001 σ
+
+-- an occurrence in memory is passed by the event e
+abbrev pub through : Event → Standing → Occurrence → Standing
+through e σ o = passed e (told o) σ
+
+-- each step passes its occurrence by the event e
+abbrev pub PassesBy : Event → (Occurrence → MutBor Levels → MutBor Levels → Type 0) → Type 0
+PassesBy e Step = (o : Occurrence) (before after : MutBor Levels) → Step o before after → AtMost (2 ^ 32 - 2) (standing_of before.now) →
+    standing_of after.now ≡ through e (standing_of before.now) o
+
+-- the doors of the operation of e were passed, one occurrence after another
+pub record Passed (e : Event) (d d' : Doors) : Type 0 where
+  pub rows : d'.rows ≡ d.rows
+  pub levels : Low (standing_of d.levels) → standing_of d'.levels ≡ fold (through e) (standing_of d.levels) (row d.rows (operation e))
 
 -- the memory tells how the doors of the text t stand after the history h
 abbrev pub Tells : Doors → Text → History → Type 0

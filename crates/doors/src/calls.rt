@@ -1,41 +1,27 @@
 ghost use Rattle.std.specs.Prelude.{◌≡◌, ℕ, ◌≤◌, true, List, [], ◌∷◌, ◌++◌, take, if◌then◌else◌, Decides, nat_eq};
-ghost use Rattle.table.specs.Contents.{contents};
 ghost use Rattle.paths.specs.Grammar.{Text};
-ghost use Rattle.paths.specs.Words.{History, ⊕, ⊖};
+ghost use Rattle.paths.specs.Words.{History, Event, ⊕, ⊖, operation as operation_of};
 ghost use Rattle.paths.specs.Doors.{Occurrence as TheOccurrence, Standing, next, OpenTo, semaphore_of};
 ghost use Rattle.paths.specs.Texts.{EachProper, FitsAll, text_doors};
 ghost use Rattle.paths.specs.Runs.{let_in_by};
 ghost use Rattle.doors.specs.Told.{door_of, all_told};
-ghost use Rattle.doors.specs.Memory.{standing_of, row, room, begins, with_open, Holds, Low, Tells, Limited};
+ghost use Rattle.doors.specs.Memory.{standing_of, row, room, begins, with_open, Holds, Low, PassesBy, Passed, Tells, Limited};
 
 use super::{Doors, Levels, Occurrence, Rows};
-use table::Table;
-
-// Whether an occurrence is the first of its path, from the path of the occurrence before it.
-fn begins_path(before: Option<u8>, path: u8) -> bool
-    ensures first { result ≡ begins before path }
-{
-    match before {
-        None => true,
-        Some(other) => path != other,
-    }
-}
 
 impl Doors {
     // The doors of a text before anything happened.
-    pub fn new(occurrences: &Table<Occurrence>) -> Doors
-        ensures opened { (t : Text) → Limited t → all_told (contents occurrences.now) ≡ text_doors t 0 0 0 → Tells result t [] }
+    pub fn new(occurrences: &[Occurrence]) -> Doors
+        ensures opened { (t : Text) → Limited t → all_told occurrences.now ≡ text_doors t 0 0 0 → Tells result t [] }
     {
         let mut doors = Doors {
             rows: Rows::new(),
             levels: Levels::new(),
         };
         let mut before = None;
-        for i in 0..occurrences.count() {
-            if let Some(occurrence) = occurrences.get(i) {
-                doors.add(occurrence, before);
-                before = Some(occurrence.path);
-            }
+        for occurrence in occurrences {
+            doors.add(*occurrence, before);
+            before = Some(occurrence.path);
         }
         doors
     }
@@ -46,7 +32,7 @@ impl Doors {
         ensures levels { standing_of self.new.levels ≡ (if begins before occurrence.path then with_open (semaphore_of (door_of occurrence.left)) (standing_of self.old.levels) else standing_of self.old.levels) }
     {
         self.rows.add(occurrence);
-        if begins_path(before, occurrence.path) {
+        if before != Some(occurrence.path) {
             self.levels.open_path(occurrence.left);
         }
     }
@@ -57,12 +43,10 @@ impl Doors {
         ensures text { (t : Text) (h : History) → EachProper t → FitsAll t h → Tells self.now t h → Decides result (FitsAll t (h ++ (⊕ operation ∷ []))) }
         ensures unknown { 64 ≤ operation → result ≡ true }
     {
-        for i in 0..self.rows.count(operation) {
-            if !self.levels.lets_in(self.rows.at(operation, i)) {
-                return false;
-            }
-        }
-        true
+        self.rows
+            .of(operation)
+            .iter()
+            .all(|occurrence| self.levels.is_open(occurrence.left))
     }
 
     // Goes in by all left doors of an operation.
@@ -71,9 +55,7 @@ impl Doors {
         ensures text { (t : Text) (h : History) → EachProper t → FitsAll t h → let_in_by h ≤ 1000000 → Tells self.old t h → Tells self.new t (h ++ (⊕ operation ∷ [])) }
         ensures unknown { 64 ≤ operation → self.new ≡ self.old }
     {
-        for i in 0..self.rows.count(operation) {
-            self.levels.enter(self.rows.at(operation, i));
-        }
+        self.pass(operation, |levels, name| levels.go_in(name.left));
     }
 
     // Leaves by all right doors of an operation.
@@ -82,8 +64,17 @@ impl Doors {
         ensures text { (t : Text) (h : History) → EachProper t → FitsAll t h → let_in_by h ≤ 1000000 → Tells self.old t h → Tells self.new t (h ++ (⊖ operation ∷ [])) }
         ensures unknown { 64 ≤ operation → self.new ≡ self.old }
     {
-        for i in 0..self.rows.count(operation) {
-            self.levels.leave(self.rows.at(operation, i));
+        self.pass(operation, |levels, name| levels.leave_by(name.right));
+    }
+
+    // Passes the doors of an operation, one occurrence after another.
+    fn pass<F: Fn(&mut Levels, Occurrence)>(&mut self, operation: u8, by: F)
+        requires { F.IsAlwaysCallable by }
+        ensures passed { (e : Event) → operation_of e ≡ operation → PassesBy e (λ o before after. F.post by before o tt after) → Passed e self.old self.new }
+        ensures unknown { 64 ≤ operation → self.new ≡ self.old }
+    {
+        for occurrence in self.rows.of(operation) {
+            by(&mut self.levels, *occurrence);
         }
     }
 }

@@ -1,74 +1,37 @@
-ghost use Rattle.std.specs.Prelude.{◌≡◌, ℕ, ◌+◌, ◌*◌, ◌<◌, min, [], ◌∷◌, ◌++◌, length, take, if◌then◌else◌, nat_eq, slice_index_or};
+ghost use Rattle.std.specs.Prelude.{◌≡◌, ℕ, ◌≤◌, [], ◌∷◌, ◌++◌, length, take, if◌then◌else◌, nat_eq};
 ghost use Rattle.doors.specs.Memory.{row, room};
 
-use super::{Door, Occurrence, Rows};
-
-// How many places are taken, of the 32 that an operation has.
-fn taken(count: u8) -> usize
-    ensures taken { result ≡ min count 32 }
-{
-    count.min(32) as usize
-}
-
-// The place of an occurrence of an operation.
-fn place(operation: u8, i: usize) -> usize
-    requires within { (operation < 64) × (i < 32) }
-    ensures place { result ≡ 32 * operation + i }
-{
-    32 * operation as usize + i
-}
+use super::{Occurrence, Rows};
 
 impl Rows {
     // No occurrence of any operation.
     pub(crate) fn new() -> Rows
         ensures empty { (a : ℕ) → row result a ≡ [] }
     {
-        let door = Door {
-            semaphore: 0,
-            counter: None,
-        };
-        let nowhere = Occurrence {
-            path: 0,
-            operation: 0,
-            left: door,
-            right: door,
-        };
         Rows {
-            places: [nowhere; 2048],
-            counts: [0; 64],
+            by_operation: Default::default(),
         }
     }
 
-    // How many occurrences an operation has.
-    pub(crate) fn count(&self, operation: u8) -> usize
-        ensures count { result ≡ length (row self.now operation) }
+    // The occurrences of an operation.
+    pub(crate) fn of(&self, operation: u8) -> &[Occurrence]
+        ensures row { result.now ≡ row self.now operation }
+        ensures few { length result.now ≤ 32 }
+        ensures unknown { 64 ≤ operation → result.now ≡ [] }
     {
-        if operation < 64 {
-            taken(self.counts[operation as usize])
-        } else {
-            0
+        match self.by_operation.get(usize::from(operation)) {
+            Some(row) => row.as_slice(),
+            None => &[],
         }
     }
 
-    // An occurrence of an operation, by its number.
-    pub(crate) fn at(&self, operation: u8, i: usize) -> Occurrence
-        requires within { i < length (row self.now operation) }
-        ensures shown { result ≡ slice_index_or (row self.now operation) i result }
-    {
-        self.places[place(operation, i)]
-    }
-
-    // Adds an occurrence behind those of its operation, as far as the places reach.
+    // Adds an occurrence behind those of its operation, as far as its row reaches.
     pub(crate) fn add(&mut self, occurrence: Occurrence)
         ensures added { (a : ℕ) → row self.new a ≡ (if nat_eq a occurrence.operation then take (room a) (row self.old a ++ occurrence ∷ []) else row self.old a) }
     {
-        let operation = occurrence.operation;
-        if operation < 64 {
-            let count = self.counts[operation as usize];
-            if count < 32 {
-                self.places[place(operation, count as usize)] = occurrence;
-                self.counts[operation as usize] = count + 1;
-            }
+        let operation = usize::from(occurrence.operation);
+        if operation < self.by_operation.len() {
+            let _ = self.by_operation[operation].try_push(occurrence);
         }
     }
 }

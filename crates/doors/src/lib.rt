@@ -5,15 +5,17 @@ mod calls;
 mod keeping;
 mod passing;
 
+use arrayvec::ArrayVec;
+
 // A semaphore, with a counter or without one.
-#[derive(Clone, Copy)]
+#[derive(Clone, Copy, Default)]
 pub struct Door {
     pub semaphore: u8,
     pub counter: Option<u8>,
 }
 
 // A name in the text: the number of its path, its operation and its two doors.
-#[derive(Clone, Copy)]
+#[derive(Clone, Copy, Default)]
 pub struct Occurrence {
     pub path: u8,
     pub operation: u8,
@@ -28,11 +30,10 @@ struct Levels {
     counters: [u32; 256],
 }
 
-// The occurrences by operation: 32 places for each of 64 operations, the first `counts` of them taken.
+// The occurrences by operation: a row of up to 32 for each of 64 operations.
 #[derive(Drop)]
 struct Rows {
-    places: [Occurrence; 2048],
-    counts: [u8; 64],
+    by_operation: [ArrayVec<Occurrence, 32>; 64],
 }
 
 // The doors of a text and how they stand.

@@ -1,9 +1,9 @@
 -- The text and the log of an input: they are there, and only these.
-use Rattle.std.proofs.Common.{◌≡◌, ℕ, zero, suc, ◌+◌, ◌-◌, ◌<◌, ◌≤◌, ◌≢◌, ◌⊎◌, List, [], ◌∷◌, ◌++◌, length, get_or, take, drop, codes, sym, refl, ap, ◌∙◌, subst, inl, inr, arith, take-add}
-use Rattle.std.proofs.lemmas.List.{append-nil, append_assoc, append_cancel_right, take-append-drop, drop-drop}
+use Rattle.std.proofs.Common.{◌≡◌, ℕ, zero, suc, ◌+◌, ◌≤◌, ◌≢◌, ◌⊎◌, List, [], ◌∷◌, ◌++◌, length, get_or, take, codes, sym, refl, ap, ◌∙◌, subst, inl, inr, arith, take_at, length-append}
+use Rattle.std.proofs.lemmas.List.{append-nil, append_assoc, append_cancel_right}
 use Rattle.std.proofs.lemmas.Bool.{cases_eq}
 use Rattle.input.specs.Input.{FirstLine, Cut, nothing, at_mark, past_line, OneCut}
-use Rattle.input.proofs.Firsts.{one_first, empty_first, front_of, shorter, some_first}
+use Rattle.input.proofs.Firsts.{one_first, empty_first, front_of, shorter, some_byte, some_first}
 
 pub mark_is : (line : List ℕ) → (length line ≡ 1) × (get_or line 0 0 ≡ 37) → line ≡ codes "%"
 mark_is [] h = absurd (omega arith)
@@ -29,7 +29,7 @@ some_cut : (n : ℕ) (input : List ℕ) → length input ≤ n → SomeCut input
 some_cut n [] le = ([], [], nothing)
 some_cut zero (b ∷ bs) le = absurd (omega arith)
 some_cut (suc n) (b ∷ bs) le =
-    let f = some_first b bs in
+    let f = some_first (b ∷ bs) (some_byte b bs) in
     let s = shorter (b ∷ bs) f.0 f.1 f.2 in
     go f.0 f.1 f.2 (mark_told f.0) (some_cut n f.1 (omega arith))
   where
@@ -56,29 +56,40 @@ pub one_cut : OneCut
 one_cut = record { some = λ input. some_cut (length input) input (omega arith); same = same_cut }
 
 -- ---- going through the lines
--- how the bytes from p on are cut tells how the input is cut
-abbrev pub Past : List ℕ → ℕ → Type 0
-Past input p = (text log : List ℕ) → Cut (drop p input) text log → Cut input (take p input ++ text) log
+-- no line of the front is the mark: how the rest is cut tells how the input is cut
+pub record Going (input rest : List ℕ) : Type 0 where
+  pub front : List ℕ
+  pub joined : input ≡ front ++ rest
+  pub past : (text log : List ℕ) → Cut rest text log → Cut input (front ++ text) log
 
--- the line that a reader of the input has read
-pub read : (input before after : List ℕ) (p q t : ℕ) (line : List ℕ) → before ≡ input → after ≡ before → p ≡ t → FirstLine (drop p before) line (drop q after) → FirstLine (drop t input) line (drop q input)
-read input before after p q t line a b e f =
-    subst (λ r. FirstLine (drop t input) line (drop q r)) (b ∙ a) (subst (λ k. FirstLine (drop k input) line (drop q after)) e (subst (λ r. FirstLine (drop p r) line (drop q after)) a f))
+pub going_start : (input rest : List ℕ) → rest ≡ input → Going input rest
+going_start input rest e = record { front = []; joined = sym e; past = λ text log c. subst (λ i. Cut i text log) e c }
 
-module _ (input : List ℕ) (p : ℕ) (past : Past input p) where
-  pub past_more : (q : ℕ) (line : List ℕ) → p < q → FirstLine (drop p input) line (drop q input) → line ≢ codes "%" → Past input q
-  past_more q line lt f n text log c =
-      let part = take (q - p) (drop p input) in
-      let e : p + (q - p) ≡ q = omega arith in
-      let d : drop p input ≡ part ++ drop q input = sym (take-append-drop (q - p) (drop p input)) ∙ ap (λ r. part ++ r) (drop-drop (q - p) p input ∙ ap (λ k. drop k input) e) in
-      let t : take p input ++ (part ++ text) ≡ take q input ++ text = sym (append_assoc (take p input) part text) ∙ ap (λ r. r ++ text) (sym (take-add p (q - p) input) ∙ ap (λ k. take k input) e) in
-      subst (λ r. Cut input r log) t (past (part ++ text) log (past_line part f n d c))
+module _ (input rest : List ℕ) (go : Going input rest) where
+  pub going_more : (line behind : List ℕ) → FirstLine rest line behind → line ≢ codes "%" → Going input behind
+  going_more line behind f n =
+      let h = front_of rest line behind f in
+      record {
+        front = go.front ++ h.0;
+        joined = go.joined ∙ ap (λ r. go.front ++ r) h.1 ∙ sym (append_assoc go.front h.0 behind);
+        past = λ text log c. subst (λ t. Cut input t log) (sym (append_assoc go.front h.0 text)) (go.past (h.0 ++ text) log (past_line h.0 f n h.1 c));
+      }
 
-  ends_here : (log : List ℕ) → Cut (drop p input) [] log → Cut input (take p input) log
-  ends_here log c = subst (λ r. Cut input r log) (append-nil (take p input)) (past [] log c)
+  pub rest_within : length rest ≤ length input
+  rest_within = omega (arith, ap length go.joined, length-append go.front rest)
 
-  pub past_mark : (log line : List ℕ) → FirstLine (drop p input) line log → line ≡ codes "%" → Cut input (take p input) log
-  past_mark log line f e = ends_here log (at_mark (subst (λ l. FirstLine (drop p input) l log) e f))
+  -- the first n bytes are the front
+  module _ (n : ℕ) (long : n + length rest ≡ length input) where
+    front_is : go.front ≡ take n input
+    front_is = sym (ap (take n) go.joined ∙ take_at go.front rest n (let l = length-append go.front rest in omega (arith, long, l, ap length go.joined)))
 
-  pub past_all : drop p input ≡ [] → Cut input (take p input) (drop p input)
-  past_all e = subst (λ r. Cut input (take p input) r) (sym e) (ends_here [] (subst (λ r. Cut r [] []) (sym e) nothing))
+    pub cut_at_mark : (line log : List ℕ) → FirstLine rest line log → line ≡ codes "%" → Cut input (take n input) log
+    cut_at_mark line log f e = subst (λ x. Cut input x log) (append-nil go.front ∙ front_is) (go.past [] log (at_mark (subst (λ l. FirstLine rest l log) e f)))
+
+    pub mark_between : (line log : List ℕ) → FirstLine rest line log → (mark : List ℕ) × (input ≡ take n input ++ (mark ++ log))
+    mark_between line log f = let h = front_of rest line log f in (h.0, go.joined ∙ (λ i. front_is i ++ h.1 i))
+
+  pub cut_at_end : rest ≡ [] → (log : List ℕ) → log ≡ [] → Cut input input log
+  cut_at_end e log l =
+      let all : input ≡ go.front ++ [] = go.joined ∙ ap (λ r. go.front ++ r) e in
+      subst (λ x. Cut input x log) (sym all) (go.past [] log (subst (λ r. Cut r [] log) (sym e) (subst (Cut [] []) (sym l) nothing)))

@@ -1,4 +1,4 @@
-ghost use Rattle.std.specs.Prelude.{◌≡◌, ◌<◌, ◌≤◌, length, take, drop, Decides, MatchResult, slice_index};
+ghost use Rattle.std.specs.Prelude.{◌≡◌, ℕ, ◌<◌, ◌≤◌, List, ◌++◌, length, Decides, MatchResult, codes};
 ghost use Rattle.input.specs.Input.{Cut};
 
 use super::{LineReader, Parts, TooLong};
@@ -18,30 +18,29 @@ pub fn check_input(input: &[u8]) -> Result<(), TooLong>
 
 // Whether a line is just `%`.
 fn is_mark(line: &[u8]) -> bool
-    ensures mark { Decides result ((length line.now ≡ 1) × (slice_index line.now 0 ≡ 37)) }
+    ensures mark { Decides result (line.now ≡ codes "%") }
 {
-    line.len() == 1 && line[0] == b'%'
+    matches!(line, b"%")
 }
 
-// Where the text ends and the log starts.
-pub fn split(input: &[u8]) -> Parts
-    ensures cut { Cut input.now (take result.text_end input.now) (drop result.log_start input.now) }
-    ensures order { result.text_end ≤ result.log_start }
-    ensures bound { result.log_start ≤ length input.now }
+// The text, and the log behind the first line that is just `%`.
+pub fn split(input: &[u8]) -> Parts<'_>
+    ensures cut { Cut input.now result.text.now result.log.now }
+    ensures order { (mark : List ℕ) × (input.now ≡ result.text.now ++ (mark ++ result.log.now)) }
 {
     let mut lines = LineReader::new(input);
     let mut text_end = 0;
-    while let Some(line) = lines.next_line() {
+    while let Some(line) = lines.next() {
         if is_mark(line) {
             return Parts {
-                text_end,
-                log_start: lines.place,
+                text: &input[..text_end],
+                log: lines.rest,
             };
         }
-        text_end = lines.place;
+        text_end = input.len() - lines.rest.len();
     }
     Parts {
-        text_end,
-        log_start: text_end,
+        text: input,
+        log: lines.rest,
     }
 }

@@ -1,8 +1,6 @@
 // The program's input: text and log, and the lines of the log.
 #![tactic(auto)]
 
-ghost use Rattle.std.specs.Prelude.{◌≤◌, length};
-
 mod cut;
 mod laws;
 mod reader;
@@ -14,17 +12,15 @@ pub use laws::{one_cut, one_list};
 #[derive(Clone, Copy)]
 pub struct TooLong;
 
-// Where the text of an input ends, and where its log starts.
+// The text of an input, and its log.
 #[derive(Clone, Copy)]
-pub struct Parts {
-    pub text_end: usize,
-    pub log_start: usize,
+pub struct Parts<'a> {
+    pub text: &'a [u8],
+    pub log: &'a [u8],
 }
 
-// Some bytes, and the place from which the next line is read.
+// An iterator over the lines of some bytes, with the bytes that are still to read.
 #[derive(Drop)]
 pub struct LineReader<'a> {
-    bytes: &'a [u8],
-    place: usize,
-    ghost within: { place ≤ length bytes.now },
+    rest: &'a [u8],
 }

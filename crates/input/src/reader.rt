@@ -1,65 +1,55 @@
-ghost use Rattle.std.specs.Prelude.{◌≡◌, ◌+◌, ◌<◌, ◌≤◌, [], length, drop, MatchOption};
+ghost use Rattle.std.specs.Prelude.{◌≡◌, ◌==◌, [], MatchOption};
+ghost use Rattle.std.specs.List.{position};
 ghost use Rattle.input.specs.Input.{FirstLine};
-ghost use Rattle.input.specs.Told.{LineLength, unread, whole};
+ghost use Rattle.input.specs.Told.{unread};
 
 use super::LineReader;
 
-// The length of the first line.
-fn line_len(rest: &[u8]) -> usize
-    ensures line { LineLength rest.now result }
-    ensures bound { result ≤ length rest.now }
+// Where the first line ends, if a byte 10 ends it.
+fn line_end(bytes: &[u8]) -> Option<usize>
+    ensures end { result ≡ position (λ b. b == 10) bytes.now }
 {
-    let mut n = 0;
-    while n < rest.len() && rest[n] != b'\n' {
-        n += 1;
-    }
-    n
+    bytes.iter().position(|b| *b == b'\n')
 }
 
-// How many bytes a line of that length takes, with its byte 10 if there is one, out of so many.
-fn taken(len: usize, bytes: usize) -> usize
-    requires { len ≤ bytes }
-    ensures ended { len < bytes → result ≡ len + 1 }
-    ensures last { bytes ≤ len → result ≡ len }
-    ensures some { 0 < bytes → 0 < result }
-    ensures bound { result ≤ bytes }
+// The first line and what follows it, none where there are no bytes.
+#[tactic(auto, using(crate::proofs::Firsts::line_ended, crate::proofs::Firsts::last_line))]
+fn first_line(bytes: &[u8]) -> Option<(&[u8], &[u8])>
+    ensures line { MatchOption result (bytes.now ≡ []) (λ cut. FirstLine bytes.now cut.0.now cut.1.now) }
 {
-    if len < bytes { len + 1 } else { len }
-}
-
-// The line that starts at a place, none at the end, and where the reading goes on.
-fn follow(bytes: &[u8], place: usize) -> (Option<&[u8]>, usize)
-    requires { place ≤ length bytes.now }
-    ensures line { MatchOption result.0 (drop place bytes.now ≡ []) (λ l. FirstLine (drop place bytes.now) l.now (drop result.1 bytes.now)) }
-    ensures moved { MatchOption result.0 (result.1 ≡ place) (λ _. place < result.1) }
-    ensures bound { result.1 ≤ length bytes.now }
-{
-    if place == bytes.len() {
-        return (None, place);
+    if bytes.is_empty() {
+        return None;
     }
-    let rest = &bytes[place..];
-    let len = line_len(rest);
-    (Some(&rest[0..len]), place + taken(len, rest.len()))
+    match line_end(bytes) {
+        Some(end) => Some((&bytes[..end], &bytes[end + 1..])),
+        None => Some((bytes, &[])),
+    }
 }
 
 impl<'a> LineReader<'a> {
     // A reader before the first line.
     pub fn new(bytes: &'a [u8]) -> LineReader<'a>
-        ensures bytes { whole result ≡ bytes.now }
-        ensures place { result.place ≡ 0 }
+        ensures bytes { unread result ≡ bytes.now }
     {
-        LineReader { bytes, place: 0 }
+        LineReader { rest: bytes }
     }
+}
 
-    // The next line, or none at the end; a line moves the place behind it.
-    pub fn next_line(&mut self) -> Option<&'a [u8]>
-        ensures line { MatchOption result (unread self.old ≡ []) (λ l. FirstLine (unread self.old) l.now (unread self.new)) }
-        ensures moved { MatchOption result (self.new.place ≡ self.old.place) (λ _. self.old.place < self.new.place) }
-        ensures bound { self.new.place ≤ length (whole self.new) }
-        ensures bytes { whole self.new ≡ whole self.old }
-    {
-        let (line, place) = follow(self.bytes, self.place);
-        self.place = place;
-        line
+impl<'a> Iterator for LineReader<'a> {
+    ghost use Rattle.std.specs.Iterator.{item_count};
+    ghost use Rattle.input.specs.Told.{unread, GivesLine};
+
+    type Item = &'a [u8];
+
+    ghost next_gives = { GivesLine };
+
+    // Each line takes a byte at least.
+    ghost remaining = { item_count unread };
+
+    // The next line, or none at the end.
+    fn next(&mut self) -> Option<&'a [u8]> {
+        let (line, rest) = first_line(self.rest)?;
+        self.rest = rest;
+        Some(line)
     }
 }

@@ -1,5 +1,5 @@
 -- What is printed for a text at fault is one.
-use Rattle.std.proofs.Common.{◌≡◌, ℕ, cond, ltb, List, [], ◌∷◌, ◌++◌, Some, codes, decimal, sym, refl, ap, ◌∙◌}
+use Rattle.std.proofs.Common.{◌≡◌, ℕ, cond, ltb, List, ◌∷◌, Some, decimal, sym, refl, ap, ◌∙◌}
 use Rattle.tokens.specs.declared.BytesFault.TheVariants.{TooLong, NoToken, LongName}
 use Rattle.rules.proofs.Scan.{one_fault}
 use Rattle.reading.specs.declared.Limit.TheVariants.{OpenBrackets, OpenBraces, NameOnce, Paths, Names, Occurrences, Brackets}
@@ -9,7 +9,8 @@ use Rattle.reading.specs.declared.ReadFault.TheVariants.{Grammar, Rule, TooFewPl
 use Rattle.reading.specs.declared.Stage.{Stage}
 use Rattle.reading.specs.declared.Stage.TheVariants as stage
 use Rattle.reading.specs.Faults.{fault_number, fault_stage, fault_place}
-use Rattle.print.specs.Lines.{stage_bytes, place_bytes, fault_line}
+use Rattle.print.specs.Words.{line_of}
+use Rattle.print.specs.Lines.{stage_bytes, place_words, fault_line}
 use Rattle.unit.specs.Output.{FaultPrinted}
 
 -- ---- a fault's number and place tell its line
@@ -35,7 +36,7 @@ stage_told TooFewPlaces = refl
 one_line : (f g : ReadFault) → fault_number f ≡ fault_number g → fault_place f ≡ fault_place g → fault_line f ≡ fault_line g
 one_line f g n p =
     let s : fault_stage f ≡ fault_stage g = stage_told f ∙ ap stage_of n ∙ sym (stage_told g) in
-    λ i. stage_bytes (s i) ++ codes " " ++ decimal (n i) ++ (place_bytes (p i) ++ 10 ∷ [])
+    λ i. line_of (stage_bytes (s i)) (decimal (n i) ∷ place_words (p i))
 
 -- ---- the first fault is one
 pub one_fault_printed : (text out out' : List ℕ) → FaultPrinted text out → FaultPrinted text out' → out ≡ out'

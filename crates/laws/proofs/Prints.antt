@@ -1,20 +1,21 @@
 -- What is printed for an input is one.
 use Rattle.std.proofs.Common.{◌≡◌, ℕ, List, ◌++◌, sym, ◌∙◌, subst, arith}
 use Rattle.tokens.specs.declared.Name.{Name}
-use Rattle.tokens.specs.Tokens.{tokens}
+use Rattle.tokens.specs.Tokens.{tokens, name_bytes}
 use Rattle.rules.specs.Names.{firsts}
 use Rattle.rules.proofs.Within.{one_derivation, acceptance}
 use Rattle.reading.specs.Faults.{fault_number}
+use Rattle.rooms.specs.Rule.{Rule}
 use Rattle.run.specs.declared.answer.Totals.{Totals}
 use Rattle.run.specs.Closing.{Totaled}
 use Rattle.run.specs.Law.{Told}
-use Rattle.run.specs.Records.{Record, Rule}
+use Rattle.run.specs.Records.{Record}
 use Rattle.run.proofs.Unique.{One}
-use Rattle.print.specs.Lines.{name_bytes, doors_print}
+use Rattle.print.specs.Lines.{doors_print}
 use Rattle.input.proofs.Cuts.{one_cut}
 use Rattle.input.proofs.Firsts.{one_list}
 use Rattle.order_log.specs.Print.{total_line}
-use Rattle.unit.specs.Output.{records, log_print, FaultPrinted, LogPrinted, TextPrints, at_fault, accepted, Prints, too_long, short}
+use Rattle.unit.specs.Output.{records, log_print, FaultPrinted, LogPrinted, TextPrints, at_fault, accepted, too_long, short}
 use Rattle.laws.specs.Outputs.{OnePrint}
 use Rattle.laws.proofs.Faults.{one_fault_printed}
 use Rattle.laws.proofs.Rulings.{one_rulings}

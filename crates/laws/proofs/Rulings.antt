@@ -5,9 +5,10 @@ use Rattle.paths.specs.Grammar.{Text}
 use Rattle.tokens.specs.declared.Name.{Name}
 use Rattle.lines.specs.Lines.{Meaning}
 use Rattle.lines.proofs.Lawfuls.{one_meaning, one_verdict}
+use Rattle.rooms.specs.Rule.{Rule}
 use Rattle.run.specs.declared.call.Call.TheVariants as call
 use Rattle.run.specs.Law.{Told}
-use Rattle.run.specs.Records.{Record, begin, end, withdraw, Rule}
+use Rattle.run.specs.Records.{Record, begin, end, withdraw}
 use Rattle.run.proofs.Unique.{One, one_next}
 use Rattle.order_log.specs.Rulings.{Ruling, unlawful, unknown, called, Names, Foreign, Calls, no_begin, no_end, begins, ends, withdraws, Ruled, faulty, lawful, with_call}
 use Rattle.unit.specs.Output.{records, RulesOn, none, one_more}

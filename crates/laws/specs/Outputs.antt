@@ -1,7 +1,7 @@
 -- An input has one output.
 use Rattle.std.specs.Prelude.{◌≡◌, ℕ, List}
-use Rattle.run.specs.Records.{Rule}
 use Rattle.unit.specs.Output.{Prints, OutputOf}
+use Rattle.rooms.specs.Rule.{Rule}
 
 -- over a room with these places and this rule of choice, what is printed for an input is one
 abbrev pub OnePrint : ℕ → Rule → Type 0

@@ -1,23 +1,16 @@
 use input::{LineReader, check_input, split};
 use std::test::Fail;
 
-// Where the text ends and the log starts.
+// How long the text of an input is, and where its log starts.
 fn cut(input: &[u8]) -> (usize, usize) {
     let parts = split(input);
-    (parts.text_end, parts.log_start)
+    (parts.text.len(), input.len() - parts.log.len())
 }
 
-// The lengths of the first three lines; 99 for one that is not there.
-fn lengths(bytes: &[u8]) -> (usize, usize, usize) {
+// The lengths of the first three lines, none for one that is not there.
+fn lengths(bytes: &[u8]) -> [Option<usize>; 3] {
     let mut lines = LineReader::new(bytes);
-    (length(&mut lines), length(&mut lines), length(&mut lines))
-}
-
-fn length(lines: &mut LineReader) -> usize {
-    match lines.next_line() {
-        Some(line) => line.len(),
-        None => 99,
-    }
+    std::array::from_fn(|_| lines.next().map(|line| line.len()))
 }
 
 #[test]
@@ -42,19 +35,19 @@ fn no_marks(rt: HostRuntime) {
 
 #[test]
 fn lines_of_a_log(rt: HostRuntime) {
-    assert_eq!(rt; lengths(b""), (99, 99, 99));
-    assert_eq!(rt; lengths(b"\n"), (0, 99, 99));
-    assert_eq!(rt; lengths(b"ab"), (2, 99, 99));
-    assert_eq!(rt; lengths(b"ab\n"), (2, 99, 99));
-    assert_eq!(rt; lengths(b"ab\n\nc"), (2, 0, 1));
-    assert_eq!(rt; lengths(b"\n\n\n"), (0, 0, 0));
+    assert_eq!(rt; lengths(b""), [None, None, None]);
+    assert_eq!(rt; lengths(b"\n"), [Some(0), None, None]);
+    assert_eq!(rt; lengths(b"ab"), [Some(2), None, None]);
+    assert_eq!(rt; lengths(b"ab\n"), [Some(2), None, None]);
+    assert_eq!(rt; lengths(b"ab\n\nc"), [Some(2), Some(0), Some(1)]);
+    assert_eq!(rt; lengths(b"\n\n\n"), [Some(0), Some(0), Some(0)]);
 }
 
 #[test]
 fn longest_input(rt: HostRuntime) -> Result<(), Fail> {
     let mut bytes = vec![in rt.alloc(); 0u8; 65_536]?;
-    assert!(rt; check_input(bytes.as_slice()).is_ok());
+    assert!(rt; check_input(&bytes).is_ok());
     bytes.push(0)?;
-    assert!(rt; check_input(bytes.as_slice()).is_err());
+    assert!(rt; check_input(&bytes).is_err());
     Ok(())
 }

@@ -1,17 +1,13 @@
 -- Lines: lawful, or faulty at a place.
-use Rattle.std.proofs.Common.{◌≡◌, ℕ, suc, ◌+◌, ◌<◌, ◌≤◌, true, false, ◌≢◌, ◌⊎◌, List, [], ◌∷◌, ◌++◌, length, get_or, take, drop, sym, refl, ap, ◌∙◌, subst, inl, inr, arith}
-use Rattle.std.specs.List.{between}
+use Rattle.std.proofs.Common.{◌≡◌, ℕ, suc, ◌+◌, ◌<◌, ◌≤◌, ◌≢◌, ◌⊎◌, List, [], ◌∷◌, ◌++◌, length, get_or, take, drop, sym, Ok, refl, ap, ◌∙◌, subst, inl, inr, arith}
 use Rattle.std.specs.Str.Parse.{digits_value}
-use Rattle.std.proofs.lemmas.List.{length-append, length-drop, length-take-le, take_all, take-append-drop, take_rest, take_at, drop_at, take_more, drop_more}
-use Rattle.std.proofs.lemmas.Bool.{cases_eq, cases_lt, cases_Bool, both_ways}
-use Rattle.tokens.specs.Tokens.{Byte, blank, letter, digit, other, sign, byte, in_name}
-use Rattle.lines.specs.declared.letter.Letter.{Letter}
-use Rattle.lines.specs.declared.letter.Letter.TheVariants.{B, E, W}
-use Rattle.lines.specs.Lines.{Meaning, begin, end, withdraw, IsName, IsTicket, Lawful, IsLawful, Wrong, at_byte, stops_short, Faulty, OneMeaning, OneVerdict}
-use Rattle.lines.specs.Reads.{Longest, IsRank, code}
+use Rattle.std.proofs.lemmas.List.{length-append, length-drop, length-take-le, take_all, take-append-drop, take_at, drop_at, take_more, drop_more}
+use Rattle.std.proofs.lemmas.Bool.{cases_eq, cases_lt}
+use Rattle.lines.specs.Lines.{Meaning, begin, end, withdraw, IsName, IsTicket, Lawful, IsLawful, Begins, Wrong, at_byte, stops_short, Faulty, OneMeaning, OneVerdict}
+use Rattle.lines.specs.Reads.{Longest, IsRank, Ranked}
 use Rattle.lines.proofs.Places.{not_both, one_place, alike, behind, whole, broken}
-use Rattle.lines.proofs.Rows.{longest}
-use Rattle.lines.proofs.Tails.{first, names, tickets, rank_none, rank_space, rank_over, rank_is, BeginRest, begin_none, begin_wrong}
+use Rattle.lines.proofs.Rows.{between_told}
+use Rattle.lines.proofs.Tails.{first, digit_most, digit_is, name_found, ticket_found, names, tickets, rank_none, rank_space, rank_over, rank_is, BeginRest, begin_none, begin_wrong}
 
 -- ---- the letter and the space
 abbrev letter_of : Meaning → ℕ
@@ -40,26 +36,25 @@ unlettered line f h = go h.0 h.1
     go (end w) l = f.1 (starts line (end w) l)
     go (withdraw t) l = f.2 (starts line (withdraw t) l)
 
+abbrev IsLetter : ℕ → Type 0
+IsLetter b = (b ≡ 98) ⊎ ((b ≡ 101) ⊎ (b ≡ 119))
+
 -- some lawful line with a letter
-example : (l : Letter) → (rest : List ℕ) × IsLawful (code l ∷ rest)
-example B = (32 ∷ 97 ∷ 32 ∷ 48 ∷ [], (begin (97 ∷ []) 0, (48, refl, (refl, tt, omega arith), refl, refl)))
-example E = (32 ∷ 97 ∷ [], (end (97 ∷ []), (refl, (refl, tt, omega arith))))
-example W = (32 ∷ 49 ∷ [], (withdraw 1, (49 ∷ [], refl, ((refl, omega arith), tt, omega arith), refl)))
+example : (b : ℕ) → IsLetter b → (rest : List ℕ) × IsLawful (b ∷ rest)
+example b (inl e) = (32 ∷ 97 ∷ 32 ∷ 48 ∷ [], (begin (97 ∷ []) 0, (48, ap (λ c. c ∷ 32 ∷ 97 ∷ 32 ∷ 48 ∷ []) e, (refl, tt, omega arith), refl, refl)))
+example b (inr (inl e)) = (32 ∷ 97 ∷ [], (end (97 ∷ []), (ap (λ c. c ∷ 32 ∷ 97 ∷ []) e, (refl, tt, omega arith))))
+example b (inr (inr e)) = (32 ∷ 49 ∷ [], (withdraw 1, (49 ∷ [], ap (λ c. c ∷ 32 ∷ 49 ∷ []) e, ((refl, omega arith), tt, omega arith), refl)))
+
+some_line : Begins IsLawful []
+some_line = let h = example 101 (inr (inl refl)) in (101 ∷ h.0, h.1)
 
 pub no_letter : (line : List ℕ) → (0 < length line → NoLetter (get_or line 0 0)) → Faulty line 0
-no_letter [] f = stops_short (101 ∷ (example E).0, (example E).1) (unlettered [] (omega arith, omega arith, omega arith))
-no_letter (x ∷ xs) f = at_byte (omega arith) (101 ∷ (example E).0, (example E).1) (λ h. unlettered (x ∷ h.0) (f (omega arith)) h.1)
+no_letter [] f = stops_short some_line (unlettered [] (omega arith, omega arith, omega arith))
+no_letter (x ∷ xs) f = at_byte (omega arith) some_line (λ h. unlettered (x ∷ h.0) (f (omega arith)) h.1)
 
-pub no_space : (line : List ℕ) (l : Letter) → 0 < length line → get_or line 0 0 ≡ code l → (1 < length line → get_or line 1 0 ≢ 32) → Faulty line 1
-no_space [] l lt e f = absurd (omega arith)
-no_space (x ∷ []) l lt e f = subst (λ y. Faulty (y ∷ []) 1) (sym e) (stops_short (example l) (λ h. let z = spaced (code l ∷ []) h.0 h.1 in omega arith))
-no_space (x ∷ y ∷ ys) l lt e f =
-    subst (λ z. Faulty (z ∷ y ∷ ys) 1) (sym e) (at_byte (omega arith) (example l) (λ h. f (omega arith) (spaced (code l ∷ y ∷ h.0) h.1.0 h.1.1)))
-
-pub space_behind : (line : List ℕ) (l : Letter) → get_or line 0 0 ≡ code l → 2 ≤ length line → get_or line 1 0 ≡ 32 → line ≡ code l ∷ 32 ∷ between 2 (length line) line
-space_behind [] l e lt s = absurd (omega arith)
-space_behind (x ∷ []) l e lt s = absurd (omega arith)
-space_behind (x ∷ y ∷ ys) l e lt s = ap (λ a. a ∷ y ∷ ys) e ∙ ap (λ b. code l ∷ b ∷ ys) s ∙ ap (λ r. code l ∷ 32 ∷ r) (sym (take_rest (x ∷ y ∷ ys) 2))
+pub no_space : (x : ℕ) (tail : List ℕ) → IsLetter x → (0 < length tail → get_or tail 0 0 ≢ 32) → Faulty (x ∷ tail) 1
+no_space x [] l f = stops_short (example x l) (λ h. let z = spaced (x ∷ []) h.0 h.1 in omega arith)
+no_space x (y ∷ ys) l f = at_byte (omega arith) (example x l) (λ h. f (omega arith) (spaced (x ∷ y ∷ h.0) h.1.0 h.1.1))
 
 -- ---- behind the space
 -- a line with the letter x is lawful just where what stands behind the space has the form
@@ -129,8 +124,14 @@ module _ (rest : List ℕ) (n : ℕ) (l : Longest IsName rest n) (pos : n ≡ 0 
       let at_name = length-take-le n rest l.within in
       in_line 98 BeginRest to_begin from_begin rest (n + q) (subst (λ r. Wrong BeginRest r (n + q)) (take-append-drop n rest) (subst (λ k. Wrong BeginRest (take n rest ++ drop n rest) (k + q)) at_name (begin_wrong (take n rest) (drop n rest) named no_longer q h)))
 
-  pub begin_lawful : (d rank : ℕ) → drop n rest ≡ 32 ∷ d ∷ [] → byte d ≡ digit → rank ≡ digits_value 10 (d ∷ []) → Lawful (98 ∷ 32 ∷ rest) (begin (take n rest) rank)
-  begin_lawful d rank e g v = (d, ap (λ r. 98 ∷ 32 ∷ r) (sym (take-append-drop n rest) ∙ ap (λ r. take n rest ++ r) e), named, g, v)
+  pub begin_lawful : (name : List ℕ) (rank : ℕ) → name ≡ take n rest → Ranked (drop n rest) (Ok rank) → Lawful (98 ∷ 32 ∷ rest) (begin name rank)
+  begin_lawful name rank e r = (
+    r.0,
+    ap (λ l. 98 ∷ 32 ∷ l) (sym (take-append-drop n rest) ∙ ap (λ l. take n rest ++ l) r.1 ∙ ap (λ l. l ++ (32 ∷ r.0 ∷ [])) (sym e)),
+    subst IsName (sym e) named,
+    r.2,
+    r.3,
+  )
 
 -- ---- no line is lawful in two ways
 same_begin : (w v : List ℕ) (c d : ℕ) → w ++ (32 ∷ c ∷ []) ≡ v ++ (32 ∷ d ∷ []) → (w ≡ v) × (c ≡ d)
@@ -164,103 +165,72 @@ one_meaning line m n h k = go m n h k (sym (starts line m h) ∙ starts line n k
 abbrev Told : Type 0 → Type 0
 Told P = P ⊎ (P → ⊥)
 
--- kinds of bytes are told apart
-letter_kind : (k : Byte) → Told (k ≡ letter)
-letter_kind blank = inr (λ e. let z : ◌≡◌ {A = ℕ} 0 1 = cc in omega arith)
-letter_kind letter = inl refl
-letter_kind digit = inr (λ e. let z : ◌≡◌ {A = ℕ} 0 1 = cc in omega arith)
-letter_kind other = inr (λ e. let z : ◌≡◌ {A = ℕ} 0 1 = cc in omega arith)
-letter_kind (sign s) = inr (λ e. let z : ◌≡◌ {A = ℕ} 0 1 = cc in omega arith)
-
-digit_kind : (k : Byte) → Told (k ≡ digit)
-digit_kind blank = inr (λ e. let z : ◌≡◌ {A = ℕ} 0 1 = cc in omega arith)
-digit_kind letter = inr (λ e. let z : ◌≡◌ {A = ℕ} 0 1 = cc in omega arith)
-digit_kind digit = inl refl
-digit_kind other = inr (λ e. let z : ◌≡◌ {A = ℕ} 0 1 = cc in omega arith)
-digit_kind (sign s) = inr (λ e. let z : ◌≡◌ {A = ℕ} 0 1 = cc in omega arith)
-
-name_byte : (b : ℕ) → Told (in_name b ≡ true)
-name_byte b = go (cases_Bool (in_name b))
-  where
-    go : (in_name b ≡ true) ⊎ (in_name b ≡ false) → Told (in_name b ≡ true)
-    go (inl t) = inl t
-    go (inr f) = inr (both_ways (in_name b) f)
-
-ticket_first : (b : ℕ) → Told ((byte b ≡ digit) × (b ≢ 48))
-ticket_first b = go (digit_kind (byte b)) (cases_eq b 48)
-  where
-    go : Told (byte b ≡ digit) → Told (b ≡ 48) → Told ((byte b ≡ digit) × (b ≢ 48))
-    go (inl d) (inl z) = inr (λ h. h.1 z)
-    go (inl d) (inr n) = inl (d, n)
-    go (inr d) z = inr (λ h. d h.0)
-
 abbrev Verdict : List ℕ → Type 0
 Verdict line = IsLawful line ⊎ ((p : ℕ) × Faulty line p)
 
 rank_told : (t : List ℕ) → IsRank t ⊎ ((q : ℕ) × Wrong IsRank t q)
-rank_told t = go (cases_lt 0 (length t)) (cases_eq (get_or t 0 0) 32) (digit_kind (byte (get_or t 1 0))) (cases_lt (length t) 2) (cases_eq (length t) 2)
+rank_told t = go (cases_lt 0 (length t)) (cases_eq (get_or t 0 0) 32) (between_told 48 57 (get_or t 1 0)) (cases_lt 1 (length t)) (cases_lt 2 (length t))
   where
-    go : (0 < length t) ⊎ (length t ≤ 0) → Told (get_or t 0 0 ≡ 32) → Told (byte (get_or t 1 0) ≡ digit) → (length t < 2) ⊎ (2 ≤ length t) → Told (length t ≡ 2) → IsRank t ⊎ ((q : ℕ) × Wrong IsRank t q)
-    go (inr none) s d two just = inr (0, rank_none t (λ lt. absurd (omega arith)))
-    go (inl some) (inr no_space) d two just = inr (0, rank_none t (λ _. no_space))
-    go (inl some) (inl s) (inr no_digit) two just = inr (1, rank_space t some s (λ _. no_digit))
-    go (inl some) (inl s) (inl d) (inl one) just = inr (1, rank_space t some s (λ lt. absurd (omega arith)))
-    go (inl some) (inl s) (inl d) (inr two) (inl just) = inl (get_or t 1 0, rank_is t s just, d)
-    go (inl some) (inl s) (inl d) (inr two) (inr more) = inr (2, rank_over t s d (omega arith))
+    go : (0 < length t) ⊎ (length t ≤ 0) → Told (get_or t 0 0 ≡ 32) → ((48 ≤ get_or t 1 0) × (get_or t 1 0 ≤ 57)) ⊎ (48 ≤ get_or t 1 0 → get_or t 1 0 ≤ 57 → ⊥) → (1 < length t) ⊎ (length t ≤ 1) → (2 < length t) ⊎ (length t ≤ 2) →
+        IsRank t ⊎ ((q : ℕ) × Wrong IsRank t q)
+    go (inr none) s d two over = inr (0, rank_none t (λ lt. absurd (omega arith)))
+    go (inl some) (inr n) d two over = inr (0, rank_none t (λ _. n))
+    go (inl some) (inl s) (inr f) two over = inr (1, rank_space t some s (λ _. f))
+    go (inl some) (inl s) (inl d) (inr one) over = inr (1, rank_space t some s (λ lt. absurd (omega arith)))
+    go (inl some) (inl s) (inl d) (inl two) (inl more) = inr (2, rank_over t more s d.0 d.1)
+    go (inl some) (inl s) (inl d) (inl two) (inr just) = inl (get_or t 1 0, rank_is t s (omega arith), digit_is _ d.0 d.1)
 
-behind_told : (l : Letter) (rest : List ℕ) → Verdict (code l ∷ 32 ∷ rest)
-behind_told B rest = go (longest (λ b. byte b ≡ letter) (λ b. in_name b ≡ true) 16 (λ b. letter_kind (byte b)) name_byte rest)
+begin_told : (rest : List ℕ) → Verdict (98 ∷ 32 ∷ rest)
+begin_told rest = go (name_found rest)
   where
     go : (n : ℕ) × Longest IsName rest n → Verdict (98 ∷ 32 ∷ rest)
     go h = by_count (cases_eq h.0 0)
       where
         by_rank : (h.0 ≡ 0 → ⊥) → IsRank (drop h.0 rest) ⊎ ((q : ℕ) × Wrong IsRank (drop h.0 rest) q) → Verdict (98 ∷ 32 ∷ rest)
-        by_rank pos (inl k) = inl (begin (take h.0 rest) (digits_value 10 (k.0 ∷ [])), begin_lawful rest h.0 h.1 pos k.0 (digits_value 10 (k.0 ∷ [])) k.1 k.2 refl)
+        by_rank pos (inl k) = inl (begin (take h.0 rest) (digits_value 10 (k.0 ∷ [])), begin_lawful rest h.0 h.1 pos (take h.0 rest) (digits_value 10 (k.0 ∷ [])) refl (k.0, k.1, k.2, refl, digit_most k.0 k.2))
         by_rank pos (inr k) = inr (2 + (h.0 + k.0), begin_faulty rest h.0 h.1 pos k.0 k.1)
 
         by_count : Told (h.0 ≡ 0) → Verdict (98 ∷ 32 ∷ rest)
         by_count (inl e) = inr (2, begin_nameless rest h.0 h.1 e)
         by_count (inr pos) = by_rank pos (rank_told (drop h.0 rest))
-behind_told E rest = go (longest (λ b. byte b ≡ letter) (λ b. in_name b ≡ true) 16 (λ b. letter_kind (byte b)) name_byte rest)
-  where
-    go : (n : ℕ) × Longest IsName rest n → Verdict (101 ∷ 32 ∷ rest)
-    go h = by_count (cases_eq h.0 0) (cases_lt h.0 (length rest))
-      where
-        by_count : Told (h.0 ≡ 0) → (h.0 < length rest) ⊎ (length rest ≤ h.0) → Verdict (101 ∷ 32 ∷ rest)
-        by_count (inl e) o = inr (2 + h.0, end_faulty rest h.0 h.1 (λ pos. absurd (omega arith)))
-        by_count (inr pos) (inl lt) = inr (2 + h.0, end_faulty rest h.0 h.1 (λ _. lt))
-        by_count (inr pos) (inr le) = inl (end rest, end_lawful rest h.0 h.1 pos le)
-behind_told W rest = go (longest (λ b. (byte b ≡ digit) × (b ≢ 48)) (λ b. byte b ≡ digit) 7 ticket_first (λ b. digit_kind (byte b)) rest)
-  where
-    go : (n : ℕ) × Longest IsTicket rest n → Verdict (119 ∷ 32 ∷ rest)
-    go h = by_count (cases_eq h.0 0) (cases_lt h.0 (length rest))
-      where
-        by_count : Told (h.0 ≡ 0) → (h.0 < length rest) ⊎ (length rest ≤ h.0) → Verdict (119 ∷ 32 ∷ rest)
-        by_count (inl e) o = inr (2 + h.0, withdraw_faulty rest h.0 h.1 (λ pos. absurd (omega arith)))
-        by_count (inr pos) (inl lt) = inr (2 + h.0, withdraw_faulty rest h.0 h.1 (λ _. lt))
-        by_count (inr pos) (inr le) = inl (withdraw (digits_value 10 (take h.0 rest)), withdraw_lawful rest h.0 _ h.1 pos le refl)
 
-letter_told : (b : ℕ) → ((l : Letter) × (b ≡ code l)) ⊎ NoLetter b
-letter_told b = go (cases_eq b 98) (cases_eq b 101) (cases_eq b 119)
-  where
-    go : Told (b ≡ 98) → Told (b ≡ 101) → Told (b ≡ 119) → ((l : Letter) × (b ≡ code l)) ⊎ NoLetter b
-    go (inl x) y z = inl (B, x)
-    go (inr x) (inl y) z = inl (E, y)
-    go (inr x) (inr y) (inl z) = inl (W, z)
-    go (inr x) (inr y) (inr z) = inr (x, y, z)
+-- where all that stands behind the letter x and the space has one form
+module _ (Form : List ℕ → Type 0) (x : ℕ) (faulty : (rest : List ℕ) (n : ℕ) → Longest Form rest n → (0 < n → n < length rest) → Faulty (x ∷ 32 ∷ rest) (2 + n)) (lawful : (rest : List ℕ) (n : ℕ) → Longest Form rest n → (n ≡ 0 → ⊥) → length rest ≤ n → IsLawful (x ∷ 32 ∷ rest)) where
+  whole_told : (rest : List ℕ) → (n : ℕ) × Longest Form rest n → Verdict (x ∷ 32 ∷ rest)
+  whole_told rest h = go (cases_eq h.0 0) (cases_lt h.0 (length rest))
+    where
+      go : Told (h.0 ≡ 0) → (h.0 < length rest) ⊎ (length rest ≤ h.0) → Verdict (x ∷ 32 ∷ rest)
+      go (inl e) o = inr (2 + h.0, faulty rest h.0 h.1 (λ pos. absurd (omega arith)))
+      go (inr pos) (inl lt) = inr (2 + h.0, faulty rest h.0 h.1 (λ _. lt))
+      go (inr pos) (inr le) = inl (lawful rest h.0 h.1 pos le)
+
+end_told : (rest : List ℕ) → Verdict (101 ∷ 32 ∷ rest)
+end_told rest = whole_told IsName 101 end_faulty (λ r n l pos le. (end r, end_lawful r n l pos le)) rest (name_found rest)
+
+withdraw_told : (rest : List ℕ) → Verdict (119 ∷ 32 ∷ rest)
+withdraw_told rest = whole_told IsTicket 119 withdraw_faulty (λ r n l pos le. (withdraw (digits_value 10 (take n r)), withdraw_lawful r n _ l pos le refl)) rest (ticket_found rest)
 
 judged : (line : List ℕ) → Verdict line
 judged [] = inr (0, no_letter [] (λ lt. absurd (omega arith)))
-judged (x ∷ xs) = go (letter_told x) xs
+judged (x ∷ xs) = go (cases_eq x 98) (cases_eq x 101) (cases_eq x 119)
   where
-    go : ((l : Letter) × (x ≡ code l)) ⊎ NoLetter x → (rest : List ℕ) → Verdict (x ∷ rest)
-    go (inr f) rest = inr (0, no_letter (x ∷ rest) (λ _. f))
-    go (inl h) [] = inr (1, no_space (x ∷ []) h.0 (omega arith) h.1 (λ lt. absurd (omega arith)))
-    go (inl h) (y ∷ ys) = by_space (cases_eq y 32)
+    -- with a letter, if the line is told wherever a space stands behind it
+    spaced_told : IsLetter x → ((rest : List ℕ) → Verdict (x ∷ 32 ∷ rest)) → Verdict (x ∷ xs)
+    spaced_told l f = by_tail xs
       where
-        by_space : Told (y ≡ 32) → Verdict (x ∷ y ∷ ys)
-        by_space (inl e) = subst (λ a. Verdict (a ∷ y ∷ ys)) (sym h.1) (subst (λ b. Verdict (code h.0 ∷ b ∷ ys)) (sym e) (behind_told h.0 ys))
-        by_space (inr n) = inr (1, no_space (x ∷ y ∷ ys) h.0 (omega arith) h.1 (λ _. n))
+        by_tail : (tail : List ℕ) → Verdict (x ∷ tail)
+        by_tail [] = inr (1, no_space x [] l (λ lt. absurd (omega arith)))
+        by_tail (y ∷ ys) = by_space (cases_eq y 32)
+          where
+            by_space : Told (y ≡ 32) → Verdict (x ∷ y ∷ ys)
+            by_space (inl e) = subst (λ b. Verdict (x ∷ b ∷ ys)) (sym e) (f ys)
+            by_space (inr n) = inr (1, no_space x (y ∷ ys) l (λ _. n))
+
+    go : Told (x ≡ 98) → Told (x ≡ 101) → Told (x ≡ 119) → Verdict (x ∷ xs)
+    go (inl b) e w = spaced_told (inl b) (λ r. subst (λ a. Verdict (a ∷ 32 ∷ r)) (sym b) (begin_told r))
+    go (inr b) (inl e) w = spaced_told (inr (inl e)) (λ r. subst (λ a. Verdict (a ∷ 32 ∷ r)) (sym e) (end_told r))
+    go (inr b) (inr e) (inl w) = spaced_told (inr (inr w)) (λ r. subst (λ a. Verdict (a ∷ 32 ∷ r)) (sym w) (withdraw_told r))
+    go (inr b) (inr e) (inr w) = inr (0, no_letter (x ∷ xs) (λ _. (b, e, w)))
 
 pub one_verdict : OneVerdict
 one_verdict = record {

@@ -73,21 +73,3 @@ module _ (F : List ℕ → Type 0) (g : Growing F) where
       begun : (k : ℕ) → (0 < k → F (take k (x ∷ xs))) → Begins F (take k (x ∷ xs))
       begun zero f = g.some
       begun (suc k) f = ([], subst F (sym (append-nil _)) (f (omega arith)))
-
--- the longest row of a form, found from the end
-module _ (F : List ℕ → Type 0) (tell : (xs : List ℕ) → F xs ⊎ (F xs → ⊥)) (row : List ℕ) where
-  pub seek : (k : ℕ) → k ≤ length row → ((m : ℕ) → k < m → m ≤ length row → F (take m row) → ⊥) → (n : ℕ) × Longest F row n
-  seek zero le h = (0, record { within = le; has = λ lt. absurd (omega arith); longest = h })
-  seek (suc k) le h = go (tell (take (suc k) row)) (λ f. seek k (omega arith) (further f))
-    where
-      further : (F (take (suc k) row) → ⊥) → (m : ℕ) → k < m → m ≤ length row → F (take m row) → ⊥
-      further f m lt le' x = by_order (cases_order (suc k) m)
-        where
-          by_order : (suc k ≡ m) ⊎ ((suc k < m) ⊎ (m < suc k)) → ⊥
-          by_order (inl e) = f (subst (λ j. F (take j row)) (sym e) x)
-          by_order (inr (inl lt')) = h m lt' le' x
-          by_order (inr (inr gt)) = omega arith
-
-      go : F (take (suc k) row) ⊎ (F (take (suc k) row) → ⊥) → ((F (take (suc k) row) → ⊥) → (n : ℕ) × Longest F row n) → (n : ℕ) × Longest F row n
-      go (inl f) down = (suc k, record { within = le; has = λ _. f; longest = h })
-      go (inr f) down = down f

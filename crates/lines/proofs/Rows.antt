@@ -1,12 +1,11 @@
 -- Names and tickets: one byte of one kind, then others of another, at most so many.
-use Rattle.std.proofs.Common.{◌≡◌, ℕ, zero, suc, ◌+◌, ◌<◌, ◌≤◌, ◌⊎◌, List, [], ◌∷◌, ◌++◌, length, get_or, take, subst, inl, inr, arith}
-use Rattle.std.specs.List.{AllByRecursion}
-use Rattle.std.proofs.ByRecursion.{All-get_or, All-more}
-use Rattle.std.proofs.lemmas.List.{length-append, length-take-le, get_or-take}
-use Rattle.std.proofs.lemmas.Bool.{cases_lt}
+use Rattle.std.proofs.Common.{◌≡◌, ℕ, zero, suc, ◌+◌, ◌<◌, ◌≤◌, Bool, true, false, cond, ◌⊎◌, List, [], ◌∷◌, ◌++◌, length, get_or, take, refl, sym, ◌∙◌, subst, inl, inr, arith}
+use Rattle.std.specs.List.{AllByRecursion, prefix_len}
+use Rattle.std.proofs.lemmas.List.{length-append, length-take-le}
+use Rattle.std.proofs.lemmas.Bool.{both_ways, cases_lt, cond-true}
 use Rattle.lines.specs.Lines.{Row}
 use Rattle.lines.specs.Reads.{Longest}
-use Rattle.lines.proofs.Places.{Growing, seek}
+use Rattle.lines.proofs.Places.{Growing}
 
 all_front : (P : ℕ → Type 0) (xs ys : List ℕ) → AllByRecursion P (xs ++ ys) → AllByRecursion P xs
 all_front P [] ys h = tt
@@ -20,54 +19,95 @@ module _ (First Other : ℕ → Type 0) (most : ℕ) where
     closed = λ b xs ys h. (h.0, all_front Other xs ys h.1, omega (arith, length-append xs ys, h.2));
   }
 
-  pub row_more : (xs : List ℕ) (n : ℕ) → 0 < n → n < most → n < length xs → Row First Other most (take n xs) → Other (get_or xs n 0) → Row First Other most (take (n + 1) xs)
-  row_more [] n pos m lt r o = absurd (omega arith)
-  row_more (b ∷ bs) zero pos m lt r o = absurd (omega arith)
-  row_more (b ∷ bs) (suc k) pos m lt r o =
-      let e : suc (k + 1) ≡ suc k + 1 = omega arith in
-      let short : k < length bs = omega arith in
-      subst (λ j. Row First Other most (take j (b ∷ bs))) e (r.0, All-more Other bs k 0 short r.1 o, omega (arith, length-take-le (k + 1) bs (omega arith)))
+-- whether a byte lies between two
+pub between_told : (low high b : ℕ) → ((low ≤ b) × (b ≤ high)) ⊎ (low ≤ b → b ≤ high → ⊥)
+between_told low high b = go (cases_lt b low) (cases_lt high b)
+  where
+    go : (b < low) ⊎ (low ≤ b) → (high < b) ⊎ (b ≤ high) → ((low ≤ b) × (b ≤ high)) ⊎ (low ≤ b → b ≤ high → ⊥)
+    go (inl a) u = inr (λ l h. omega arith)
+    go (inr a) (inl u) = inr (λ l h. omega arith)
+    go (inr a) (inr u) = inl (a, u)
 
-  pub row_none : (xs : List ℕ) → (0 < length xs → First (get_or xs 0 0) → ⊥) → Longest (Row First Other most) xs 0
-  row_none xs f = record { within = omega arith; has = λ lt. absurd (omega arith); longest = go xs f }
-    where
-      go : (ys : List ℕ) → (0 < length ys → First (get_or ys 0 0) → ⊥) → (m : ℕ) → 0 < m → m ≤ length ys → Row First Other most (take m ys) → ⊥
-      go [] g m pos le r = omega arith
-      go (b ∷ bs) g zero pos le r = omega arith
-      go (b ∷ bs) g (suc m) pos le r = g (omega arith) r.0
+-- how many of the first m bytes pass a test, up to the first that does not
+abbrev pub run : (ℕ → Bool) → ℕ → List ℕ → ℕ
+run q m xs = prefix_len q (take m xs)
 
-  pub row_stop : (xs : List ℕ) (n : ℕ) → 0 < n → n ≤ length xs → Row First Other most (take n xs) → ((n < most) × (n < length xs) × Other (get_or xs n 0) → ⊥) → Longest (Row First Other most) xs n
-  row_stop xs n pos le r no_more = record { within = le; has = λ _. r; longest = go xs n pos no_more }
-    where
-      go : (ys : List ℕ) (k : ℕ) → 0 < k → ((k < most) × (k < length ys) × Other (get_or ys k 0) → ⊥) → (m : ℕ) → k < m → m ≤ length ys → Row First Other most (take m ys) → ⊥
-      go [] k pos h m lt up q = omega arith
-      go (b ∷ bs) zero pos h m lt up q = omega arith
-      go (b ∷ bs) (suc k) pos h zero lt up q = omega arith
-      go (b ∷ bs) (suc k) pos h (suc m) lt up q =
-          let long = length-take-le m bs (omega arith) in
-          let in_front : k < length (take m bs) = omega arith in
-          h (omega (arith, q.2), omega arith, subst Other (get_or-take m bs k 0 (omega arith)) (All-get_or Other (take m bs) k 0 in_front q.1))
+-- the first byte is one from low to high, and a test tells which bytes may stand behind it; the first is such a byte too
+pub record Told (First Other : ℕ → Type 0) (q : ℕ → Bool) (low high : ℕ) : Type 0 where
+  pub first : (b : ℕ) → low ≤ b → b ≤ high → First b
+  pub between : (b : ℕ) → First b → (low ≤ b) × (b ≤ high)
+  pub yes : (b : ℕ) → q b ≡ true → Other b
+  pub no : (b : ℕ) → Other b → q b ≡ true
+  pub front : (b : ℕ) → First b → Other b
 
-  pub row_told : ((b : ℕ) → First b ⊎ (First b → ⊥)) → ((b : ℕ) → Other b ⊎ (Other b → ⊥)) → (xs : List ℕ) → Row First Other most xs ⊎ (Row First Other most xs → ⊥)
-  row_told first other [] = inr (λ h. h)
-  row_told first other (b ∷ bs) = go (first b) (all_told bs) (cases_lt most (length (b ∷ bs)))
+module _ {First Other : ℕ → Type 0} {q : ℕ → Bool} {low high : ℕ} (told : Told First Other q low high) where
+  run_short : (m : ℕ) (bs : List ℕ) → (run q m bs ≤ m) × (run q m bs ≤ length bs)
+  run_short zero bs = (omega arith, omega arith)
+  run_short (suc m) [] = (omega arith, omega arith)
+  run_short (suc m) (b ∷ bs) = go (q b) (run_short m bs)
     where
-      all_told : (ys : List ℕ) → AllByRecursion Other ys ⊎ (AllByRecursion Other ys → ⊥)
-      all_told [] = inl tt
-      all_told (y ∷ ys) = both (other y) (all_told ys)
+      go : (t : Bool) → (run q m bs ≤ m) × (run q m bs ≤ length bs) → (cond t (1 + run q m bs) 0 ≤ suc m) × (cond t (1 + run q m bs) 0 ≤ suc (length bs))
+      go true h = (omega arith, omega arith)
+      go false h = (omega arith, omega arith)
+
+  run_all : (m : ℕ) (bs : List ℕ) → AllByRecursion Other (take (run q m bs) bs)
+  run_all zero bs = tt
+  run_all (suc m) [] = tt
+  run_all (suc m) (b ∷ bs) = go (q b) refl (run_all m bs)
+    where
+      go : (t : Bool) → q b ≡ t → AllByRecursion Other (take (run q m bs) bs) → AllByRecursion Other (take (cond t (1 + run q m bs) 0) (b ∷ bs))
+      go true e h = let s : suc (run q m bs) ≡ 1 + run q m bs = omega arith in subst (λ (k : ℕ). AllByRecursion Other (take k (b ∷ bs))) s (told.yes b e, h)
+      go false e h = tt
+
+  run_ends : (m : ℕ) (bs : List ℕ) (j : ℕ) → run q m bs < j → j ≤ m → j ≤ length bs → AllByRecursion Other (take j bs) → ⊥
+  run_ends m bs zero lt up le h = omega arith
+  run_ends zero bs (suc j) lt up le h = omega arith
+  run_ends (suc m) [] (suc j) lt up le h = omega arith
+  run_ends (suc m) (b ∷ bs) (suc j) lt up le h = go (q b) refl (run_ends m bs j) lt
+    where
+      go : (t : Bool) → q b ≡ t → (run q m bs < j → j ≤ m → j ≤ length bs → AllByRecursion Other (take j bs) → ⊥) → cond t (1 + run q m bs) 0 < suc j → ⊥
+      go true e f l = f (omega arith) (omega arith) (omega arith) h.1
+      go false e f l = both_ways (q b) e (told.no b h.0)
+
+  -- the longest row that some bytes begin with
+  pub row_run : (most : ℕ) → 1 ≤ most → (xs : List ℕ) → 0 < length xs → low ≤ get_or xs 0 0 → get_or xs 0 0 ≤ high → Longest (Row First Other most) xs (run q most xs)
+  row_run most pos [] lt l u = absurd (omega arith)
+  row_run most pos (b ∷ bs) lt l u = go most pos
+    where
+      f : First b
+      f = told.first b l u
+
+      begun : (m : ℕ) → Longest (Row First Other (suc m)) (b ∷ bs) (suc (run q m bs))
+      begun m =
+          let up = run_short m bs in
+          record {
+            within = omega arith;
+            has = λ _. (f, run_all m bs, omega (arith, length-take-le (run q m bs) bs up.1));
+            longest = ends m;
+          }
         where
-          both : {A B : Type 0} → A ⊎ (A → ⊥) → B ⊎ (B → ⊥) → (A × B) ⊎ (A × B → ⊥)
-          both (inl a) (inl b) = inl (a, b)
-          both (inl a) (inr f) = inr (λ h. f h.1)
-          both (inr f) (inl b) = inr (λ h. f h.0)
-          both (inr f) (inr g) = inr (λ h. f h.0)
+          ends : (m j : ℕ) → suc (run q m bs) < j → j ≤ suc (length bs) → Row First Other (suc m) (take j (b ∷ bs)) → ⊥
+          ends m zero lt le r = omega arith
+          ends m (suc j) lt le r = run_ends m bs j (omega arith) (omega (arith, length-take-le j bs (omega arith), r.2)) (omega arith) r.1
 
-      go : First b ⊎ (First b → ⊥) → AllByRecursion Other bs ⊎ (AllByRecursion Other bs → ⊥) → (most < length (b ∷ bs)) ⊎ (length (b ∷ bs) ≤ most) → Row First Other most (b ∷ bs) ⊎ (Row First Other most (b ∷ bs) → ⊥)
-      go (inl f) (inl a) (inr le) = inl (f, a, le)
-      go (inl f) (inl a) (inl lt) = inr (λ h. omega (arith, h.2))
-      go (inl f) (inr a) o = inr (λ h. a h.1)
-      go (inr f) a o = inr (λ h. f h.0)
+      go : (m : ℕ) → 1 ≤ m → Longest (Row First Other m) (b ∷ bs) (run q m (b ∷ bs))
+      go zero p = omega arith
+      go (suc m) p =
+          let s : suc (run q m bs) ≡ 1 + run q m bs = omega arith in
+          subst (Longest (Row First Other (suc m)) (b ∷ bs)) (s ∙ sym (cond-true (q b) (1 + run q m bs) 0 (told.no b (told.front b f)))) (begun m)
 
-  -- every row of bytes has such a front
-  pub longest : ((b : ℕ) → First b ⊎ (First b → ⊥)) → ((b : ℕ) → Other b ⊎ (Other b → ⊥)) → (xs : List ℕ) → (n : ℕ) × Longest (Row First Other most) xs n
-  longest first other xs = seek (Row First Other most) (row_told first other) xs (length xs) (omega arith) (λ m lt le r. omega arith)
+  pub row_none : (most : ℕ) (xs : List ℕ) → (0 < length xs → low ≤ get_or xs 0 0 → get_or xs 0 0 ≤ high → ⊥) → Longest (Row First Other most) xs 0
+  row_none most xs f = record { within = omega arith; has = λ lt. absurd (omega arith); longest = none xs f }
+    where
+      none : (xs : List ℕ) → (0 < length xs → low ≤ get_or xs 0 0 → get_or xs 0 0 ≤ high → ⊥) → (m : ℕ) → 0 < m → m ≤ length xs → Row First Other most (take m xs) → ⊥
+      none [] f m lt le r = omega arith
+      none (b ∷ bs) f zero lt le r = omega arith
+      none (b ∷ bs) f (suc m) lt le r = let h = told.between b r.0 in f (omega arith) h.0 h.1
+
+  pub row_found : (most : ℕ) → 1 ≤ most → (xs : List ℕ) → (n : ℕ) × Longest (Row First Other most) xs n
+  row_found most pos xs = go (cases_lt 0 (length xs)) (between_told low high (get_or xs 0 0))
+    where
+      go : (0 < length xs) ⊎ (length xs ≤ 0) → ((low ≤ get_or xs 0 0) × (get_or xs 0 0 ≤ high)) ⊎ (low ≤ get_or xs 0 0 → get_or xs 0 0 ≤ high → ⊥) → (n : ℕ) × Longest (Row First Other most) xs n
+      go (inr le) b = (0, row_none most xs (λ lt. absurd (omega arith)))
+      go (inl lt) (inl h) = (run q most xs, row_run most pos xs lt h.0 h.1)
+      go (inl lt) (inr f) = (0, row_none most xs (λ _. f))

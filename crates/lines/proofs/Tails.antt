@@ -1,69 +1,106 @@
 -- What stands behind the letter and the space of a line.
-use Rattle.std.proofs.Common.{◌≡◌, ℕ, suc, ◌+◌, ◌*◌, ◌^◌, ◌<◌, ◌≤◌, true, false, ◌≢◌, ◌⊎◌, List, [], ◌∷◌, ◌++◌, length, get_or, take, drop, sym, refl, ap, ◌∙◌, subst, inl, inr, arith}
+use Rattle.std.proofs.Common.{◌≡◌, ℕ, zero, suc, ◌+◌, ◌-◌, ◌*◌, ◌<◌, ◌≤◌, true, false, ◌≢◌, ◌⊎◌, List, [], ◌∷◌, ◌++◌, length, get_or, take, drop, sym, refl, ap, ◌∙◌, subst, inl, inr, arith}
 use lib.Seq.{take-append-add}
-use borrow.Author.Tests.{clash}
 use Rattle.std.specs.Str.Parse.{digits_value, AllDigits}
-use Rattle.std.specs.Char.{digit_value}
-use Rattle.std.specs.List.{AllByRecursion}
-use Rattle.std.proofs.lemmas.List.{append_assoc, length-append, length-take-le}
+use Rattle.std.specs.Char.{digit_value, is_ascii_digit}
+use Rattle.std.specs.List.{AllByRecursion, prefix_len}
+use Rattle.std.proofs.lemmas.List.{append_assoc, length-append}
 use Rattle.std.proofs.lemmas.Int.Digits.{digits_value_more}
-use Rattle.std.proofs.lemmas.Str.Parse.{numerals_by_value, tells_digits, digits_value_short}
+use Rattle.std.proofs.lemmas.Str.Parse.{numerals_by_value, tells_digits, digits_value_short, digits_value-take-le}
 use Rattle.std.proofs.lemmas.Bool.Decides.{nat_tests}
 use Rattle.std.proofs.lemmas.Bool.{both_ways}
 use Rattle.tokens.specs.Tokens.{byte, letter, digit, goes_on, in_name}
 use Rattle.lines.specs.Lines.{IsName, IsTicket, Begins, Wrong, at_byte, stops_short}
 use Rattle.lines.specs.Reads.{Longest, IsRank}
 use Rattle.lines.proofs.Places.{Growing}
-use Rattle.lines.proofs.Rows.{growing, row_none, row_more, row_stop}
+use Rattle.lines.proofs.Rows.{Told, growing, row_none, row_run, row_found}
 
 pub first : {x y : ℕ} {xs ys : List ℕ} → x ∷ xs ≡ y ∷ ys → x ≡ y
-first e = ap (λ l. get_or l 0 0) e
+first e = cc
 
 -- ---- names and tickets
+letter_is : (b : ℕ) → 97 ≤ b → b ≤ 122 → byte b ≡ letter
+letter_is b l u = grind (arith, nat_tests)
+
+letter_in : (b : ℕ) → byte b ≡ letter → (97 ≤ b) × (b ≤ 122)
+letter_in b e = (grind (arith, nat_tests), grind (arith, nat_tests))
+
+pub digit_is : (b : ℕ) → 48 ≤ b → b ≤ 57 → byte b ≡ digit
+digit_is b l u = grind (arith, nat_tests)
+
+digit_in : (b : ℕ) → byte b ≡ digit → (48 ≤ b) × (b ≤ 57)
+digit_in b e = (grind (arith, nat_tests), grind (arith, nat_tests))
+
 pub names : Growing IsName
 names = growing (λ b. byte b ≡ letter) (λ b. in_name b ≡ true) 16 97 refl (omega arith)
 
 pub tickets : Growing IsTicket
 tickets = growing (λ b. (byte b ≡ digit) × (b ≢ 48)) (λ b. byte b ≡ digit) 7 49 (refl, omega arith) (omega arith)
 
-pub no_name : (xs : List ℕ) → (0 < length xs → byte (get_or xs 0 0) ≡ letter → ⊥) → Longest IsName xs 0
-no_name xs f = row_none (λ b. byte b ≡ letter) (λ b. in_name b ≡ true) 16 xs f
+name_told : Told (λ b. byte b ≡ letter) (λ b. in_name b ≡ true) in_name 97 122
+name_told = record { first = letter_is; between = letter_in; yes = λ b e. e; no = λ b e. e; front = λ b e. ap goes_on e }
 
-pub name_more : (xs : List ℕ) (n : ℕ) → 0 < n → IsName (take n xs) → (n < 16) × (n < length xs) × (in_name (get_or xs n 0) ≡ true) → IsName (take (n + 1) xs)
-name_more xs n pos w h = row_more (λ b. byte b ≡ letter) (λ b. in_name b ≡ true) 16 xs n pos h.0 h.1 w h.2
+ticket_told : Told (λ b. (byte b ≡ digit) × (b ≢ 48)) (λ b. byte b ≡ digit) is_ascii_digit 49 57
+ticket_told = record {
+  first = λ b l u. (digit_is b (omega arith) u, omega arith);
+  between = λ b h. let r = digit_in b h.0 in (omega (arith, h.1), r.1);
+  yes = λ b e. grind (arith, nat_tests);
+  no = λ b e. grind (arith, nat_tests);
+  front = λ b h. h.0;
+}
 
-pub name_stop : (xs : List ℕ) (n : ℕ) → 0 < n → n ≤ length xs → IsName (take n xs) → ((n < 16) × (n < length xs) × (in_name (get_or xs n 0) ≡ true) → false ≡ true) → Longest IsName xs n
-name_stop xs n pos le w f = row_stop (λ b. byte b ≡ letter) (λ b. in_name b ≡ true) 16 xs n pos le w (λ h. clash (f h))
+pub name_run : (xs : List ℕ) → 0 < length xs → 97 ≤ get_or xs 0 0 → get_or xs 0 0 ≤ 122 → Longest IsName xs (prefix_len in_name (take 16 xs))
+name_run = row_run name_told 16 (omega arith)
 
-pub no_ticket : (xs : List ℕ) → (0 < length xs → (byte (get_or xs 0 0) ≡ digit) × (get_or xs 0 0 ≢ 48) → ⊥) → Longest IsTicket xs 0
-no_ticket xs f = row_none (λ b. (byte b ≡ digit) × (b ≢ 48)) (λ b. byte b ≡ digit) 7 xs f
+pub no_name : (xs : List ℕ) → (0 < length xs → 97 ≤ get_or xs 0 0 → get_or xs 0 0 ≤ 122 → ⊥) → Longest IsName xs 0
+no_name = row_none name_told 16
 
-pub ticket_more : (xs : List ℕ) (n : ℕ) → 0 < n → IsTicket (take n xs) → (n < 7) × (n < length xs) × (byte (get_or xs n 0) ≡ digit) → IsTicket (take (n + 1) xs)
-ticket_more xs n pos w h = row_more (λ b. (byte b ≡ digit) × (b ≢ 48)) (λ b. byte b ≡ digit) 7 xs n pos h.0 h.1 w h.2
+pub name_found : (xs : List ℕ) → (n : ℕ) × Longest IsName xs n
+name_found = row_found name_told 16 (omega arith)
 
-pub ticket_stop : (xs : List ℕ) (n : ℕ) → 0 < n → n ≤ length xs → IsTicket (take n xs) → ((n < 7) × (n < length xs) × (byte (get_or xs n 0) ≡ digit) → false ≡ true) → Longest IsTicket xs n
-ticket_stop xs n pos le w f = row_stop (λ b. (byte b ≡ digit) × (b ≢ 48)) (λ b. byte b ≡ digit) 7 xs n pos le w (λ h. clash (f h))
+pub ticket_run : (xs : List ℕ) → 0 < length xs → 49 ≤ get_or xs 0 0 → get_or xs 0 0 ≤ 57 → Longest IsTicket xs (prefix_len is_ascii_digit (take 7 xs))
+ticket_run = row_run ticket_told 7 (omega arith)
 
--- the number that one digit more writes
-pub value_grows : (xs : List ℕ) (n before after : ℕ) → n < length xs → before ≡ digits_value 10 (take n xs) → after ≡ before * 10 + digit_value (get_or xs n 0) → after ≡ digits_value 10 (take (n + 1) xs)
-value_grows xs n before after lt e f = f ∙ ap (λ v. v * 10 + digit_value (get_or xs n 0)) e ∙ sym (digits_value_more 10 xs n lt)
+pub no_ticket : (xs : List ℕ) → (0 < length xs → 49 ≤ get_or xs 0 0 → get_or xs 0 0 ≤ 57 → ⊥) → Longest IsTicket xs 0
+no_ticket = row_none ticket_told 7
 
+pub ticket_found : (xs : List ℕ) → (n : ℕ) × Longest IsTicket xs n
+ticket_found = row_found ticket_told 7 (omega arith)
+
+-- ---- the number of a ticket
 digit_small : (b : ℕ) → byte b ≡ digit → digit_value b < 10
 digit_small b e = grind (arith, nat_tests)
 
-digits_small : (ds : List ℕ) → AllByRecursion (λ b. byte b ≡ digit) ds → AllDigits 10 ds
-digits_small [] h = tt
-digits_small (d ∷ ds) h = (digit_small d h.0, digits_small ds h.1)
+pub digit_most : (b : ℕ) → byte b ≡ digit → digits_value 10 (b ∷ []) ≤ 9
+digit_most b e = omega (arith, digit_small b e)
 
--- a ticket of at most k digits is below the k-th power of ten
-pub ticket_small : (xs : List ℕ) (n k number : ℕ) → n ≤ k → n ≤ length xs → IsTicket (take n xs) → number ≡ digits_value 10 (take n xs) → number < 10 ^ k
-ticket_small xs n k number up le w e =
-    let long = length-take-le n xs le in
-    subst (λ v. v < 10 ^ k) (sym e) (digits_value_short (numerals_by_value (AllDigits 10) tells_digits) (take n xs) k (all (take n xs) w) (omega arith))
-  where
-    all : (ds : List ℕ) → IsTicket ds → AllDigits 10 ds
-    all [] h = absurd h
-    all (d ∷ ds) h = (digit_small d h.0.0, digits_small ds h.1)
+digit_worth : (b : ℕ) → byte b ≡ digit → digit_value b ≡ b - 48
+digit_worth b e = grind (arith, nat_tests)
+
+digits : (ds : List ℕ) → IsTicket ds → AllByRecursion (λ b. byte b ≡ digit) ds
+digits [] h = absurd h
+digits (d ∷ ds) h = (h.0.0, h.1)
+
+digit_at : (ds : List ℕ) (i : ℕ) → AllByRecursion (λ b. byte b ≡ digit) ds → i < length ds → byte (get_or ds i 0) ≡ digit
+digit_at [] i h lt = absurd (omega arith)
+digit_at (d ∷ ds) zero h lt = h.0
+digit_at (d ∷ ds) (suc i) h lt = digit_at ds i h.1 (omega arith)
+
+all_small : (ds : List ℕ) → AllByRecursion (λ b. byte b ≡ digit) ds → AllDigits 10 ds
+all_small [] h = tt
+all_small (d ∷ ds) h = (digit_small d h.0, all_small ds h.1)
+
+ticket_length : (ds : List ℕ) → IsTicket ds → length ds ≤ 7
+ticket_length [] h = absurd h
+ticket_length (d ∷ ds) h = h.2
+
+pub ticket_more : (ds : List ℕ) (i : ℕ) → IsTicket ds → i < length ds → digits_value 10 (take (i + 1) ds) ≡ digits_value 10 (take i ds) * 10 + (get_or ds i 0 - 48)
+ticket_more ds i h lt = digits_value_more 10 ds i lt ∙ ap (λ v. digits_value 10 (take i ds) * 10 + v) (digit_worth _ (digit_at ds i (digits ds h) lt))
+
+pub ticket_small : (ds : List ℕ) (i : ℕ) → IsTicket ds → digits_value 10 (take i ds) ≤ 9999999
+ticket_small ds i h =
+    let whole = digits_value_short (numerals_by_value (AllDigits 10) tells_digits) ds 7 (all_small ds (digits ds h)) (ticket_length ds h) in
+    omega (arith, digits_value-take-le 10 ds i (omega arith), whole)
 
 abbrev NameBytes : List ℕ → Type 0
 NameBytes = AllByRecursion (λ b. in_name b ≡ true)
@@ -82,17 +119,17 @@ pub rank_none : (t : List ℕ) → (0 < length t → get_or t 0 0 ≢ 32) → Wr
 rank_none [] f = stops_short (32 ∷ 48 ∷ [], (48, refl, refl)) (λ h. let z = ap length h.1 in omega arith)
 rank_none (x ∷ xs) f = at_byte (omega arith) (32 ∷ 48 ∷ [], (48, refl, refl)) (λ h. f (omega arith) (first h.1.1))
 
-pub rank_space : (t : List ℕ) → 0 < length t → get_or t 0 0 ≡ 32 → (1 < length t → byte (get_or t 1 0) ≡ digit → ⊥) → Wrong IsRank t 1
+pub rank_space : (t : List ℕ) → 0 < length t → get_or t 0 0 ≡ 32 → (1 < length t → 48 ≤ get_or t 1 0 → get_or t 1 0 ≤ 57 → ⊥) → Wrong IsRank t 1
 rank_space [] lt e f = absurd (omega arith)
 rank_space (x ∷ []) lt e f = subst (λ y. Wrong IsRank (y ∷ []) 1) (sym e) (stops_short (48 ∷ [], (48, refl, refl)) (λ h. let z = ap length h.1 in omega arith))
 rank_space (x ∷ d ∷ ds) lt e f =
-    subst (λ y. Wrong IsRank (y ∷ d ∷ ds) 1) (sym e) (at_byte (omega arith) (48 ∷ [], (48, refl, refl)) (λ h. f (omega arith) (subst (λ b. byte b ≡ digit) (sym (ap (λ l. get_or l 1 0) h.1.1)) h.1.2)))
+    subst (λ y. Wrong IsRank (y ∷ d ∷ ds) 1) (sym e) (at_byte (omega arith) (48 ∷ [], (48, refl, refl)) (λ h. let r = digit_in d (subst (λ b. byte b ≡ digit) (sym (ap (λ l. get_or l 1 0) h.1.1)) h.1.2) in f (omega arith) r.0 r.1))
 
-pub rank_over : (t : List ℕ) → get_or t 0 0 ≡ 32 → byte (get_or t 1 0) ≡ digit → 2 < length t → Wrong IsRank t 2
-rank_over [] e g lt = absurd (omega arith)
-rank_over (x ∷ []) e g lt = absurd (omega arith)
-rank_over (x ∷ d ∷ []) e g lt = absurd (omega arith)
-rank_over (x ∷ d ∷ c ∷ cs) e g lt = at_byte (omega arith) ([], (d, ap (λ y. y ∷ d ∷ []) e, g)) (λ h. let z = ap length h.1.1 in omega arith)
+pub rank_over : (t : List ℕ) → 2 < length t → get_or t 0 0 ≡ 32 → 48 ≤ get_or t 1 0 → get_or t 1 0 ≤ 57 → Wrong IsRank t 2
+rank_over [] lt e l u = absurd (omega arith)
+rank_over (x ∷ []) lt e l u = absurd (omega arith)
+rank_over (x ∷ d ∷ []) lt e l u = absurd (omega arith)
+rank_over (x ∷ d ∷ c ∷ cs) lt e l u = at_byte (omega arith) ([], (d, ap (λ y. y ∷ d ∷ []) e, digit_is d l u)) (λ h. let z = ap length h.1.1 in omega arith)
 
 pub rank_is : (t : List ℕ) → get_or t 0 0 ≡ 32 → length t ≡ 2 → t ≡ 32 ∷ get_or t 1 0 ∷ []
 rank_is [] e l = absurd (omega arith)

@@ -1,12 +1,10 @@
 -- What the reader of a line answers, and what its parts tell each other.
-use Rattle.std.specs.Prelude.{◌≡◌, ℕ, ◌<◌, ◌≤◌, List, [], ◌∷◌, length, take, Ok, Err, Result, slice_index}
+use Rattle.std.specs.Prelude.{◌≡◌, ℕ, ◌<◌, ◌≤◌, List, [], ◌∷◌, length, take, Ok, Err, Result}
 use Rattle.std.specs.Str.Parse.{digits_value}
 use Rattle.tokens.specs.Tokens.{byte, digit}
 use Rattle.lines.specs.declared.Order.{Order}
 use Rattle.lines.specs.declared.Order.TheVariants.{Begin, End, Withdraw}
 use Rattle.lines.specs.declared.LineFault.{LineFault}
-use Rattle.lines.specs.declared.letter.Letter.{Letter}
-use Rattle.lines.specs.declared.letter.Letter.TheVariants.{B, E, W}
 use Rattle.lines.specs.Lines.{Meaning, begin, end, withdraw, Lawful, Wrong, Faulty}
 
 -- what an order means
@@ -42,14 +40,3 @@ IsRank bytes = (d : ℕ) × (bytes ≡ 32 ∷ d ∷ []) × (byte d ≡ digit)
 abbrev pub Ranked : List ℕ → Result ℕ LineFault → Type 0
 Ranked bytes (Ok rank) = (d : ℕ) × (bytes ≡ 32 ∷ d ∷ []) × (byte d ≡ digit) × (rank ≡ digits_value 10 (d ∷ [])) × (rank ≤ 9)
 Ranked bytes (Err fault) = Wrong IsRank bytes fault.place × (fault.place ≤ 2)
-
--- a letter's byte
-abbrev pub code : Letter → ℕ
-code B = 98
-code E = 101
-code W = 119
-
--- the letter that a line begins with, or the fault of a line that begins with none
-abbrev pub Opened : List ℕ → Result Letter LineFault → Type 0
-Opened line (Ok letter) = (0 < length line) × (slice_index line 0 ≡ code letter)
-Opened line (Err fault) = Faulty line fault.place × (fault.place ≤ 1)

@@ -1,9 +1,7 @@
 // The lines of a log: what is lawful, what it means, and where a line goes wrong.
 #![tactic(auto)]
 
-mod bytes;
 mod laws;
-mod letter;
 mod read;
 mod scan;
 

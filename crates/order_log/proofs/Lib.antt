@@ -1,4 +1,3 @@
 pub mod Asked
 pub mod Fits
-pub mod Pages
 pub mod Told

@@ -4,12 +4,12 @@ use Rattle.std.proofs.lemmas.List.{take-append-drop, length-take-le}
 use Rattle.tokens.specs.declared.Name.{Name}
 use Rattle.page.specs.Written.{Written}
 use Rattle.page.proofs.Fill.{same_bytes}
-use Rattle.print.specs.Lines.{name_bytes}
+use Rattle.tokens.specs.Tokens.{name_bytes}
 use Rattle.print.proofs.Joined.{whole}
+use Rattle.rooms.specs.Rule.{Rule}
 use Rattle.run.specs.declared.answer.LetIn.{LetIn}
-use Rattle.run.specs.declared.state.Run.{Run}
 use Rattle.run.specs.Memory.{View}
-use Rattle.run.specs.Records.{Rule, begin, end, withdraw}
+use Rattle.run.specs.Records.{begin, end, withdraw}
 use Rattle.order_log.specs.declared.answer.Answer.{Answer}
 use Rattle.order_log.specs.declared.fault.LogFault.{LogFault}
 use Rattle.order_log.specs.Print.{ended_lines}
@@ -32,12 +32,12 @@ fronted list list' ls n e h d =
     let long : n ≡ length ls = sym (length-take-le n list' h) ∙ ap length e in
     sym (take-append-drop n list') ∙ (λ i. e i ++ d i) ∙ ap (λ k. ls ++ drop k list) long
 
-pub ruling_told : {R : Type 0} (places : ℕ) (rule : Rule) (view : Run R → View) (text : List ℕ) (names : List Name) (line : List ℕ) (number : ℕ)
-    (run run' : Run R) (list list' : List LetIn) (page page' : List ℕ) (n : ℕ) (r : Result Answer LogFault) →
-    Asked places rule view text names line run run' list list' r → length list' ≡ 256 → 16384 ≤ length page →
+pub ruling_told : {R : Type 0} (places : ℕ) (rule : Rule) (text : List ℕ) (names : List Name) (line : List ℕ) (number : ℕ)
+    (run run' : View R) (list list' : List LetIn) (page page' : List ℕ) (n : ℕ) (r : Result Answer LogFault) →
+    Asked places rule text names line run run' list list' r → length list' ≡ 256 → 16384 ≤ length page →
     Written (answer_lines (name_bytes text names) number list' r) page page' n → (ReadNames names → length (answer_lines (name_bytes text names) number list' r) ≤ 16384) →
-    RulingTold places rule view text names line number run run' list list' page page' n
-ruling_told places rule view text names line number run run' list list' page page' n r a long large w short =
+    RulingTold places rule text names line number run run' list list' page page' n
+ruling_told places rule text names line number run run' list list' page page' n r a long large w short =
     let q = a.ruling in
     let e = a.answered in
     let listed : take (let_in_count (answer q)) list' ≡ let_in_by q = subst (λ x. take (let_in_count x) list' ≡ let_in_by q) e a.listed in

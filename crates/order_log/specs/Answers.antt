@@ -1,12 +1,13 @@
 -- What the calls of this crate answer, and what the memory that they were handed then holds.
 use Rattle.std.specs.Prelude.{◌≡◌, ℕ, ◌≤◌, List, [], ◌++◌, length, take, drop, Ok, Err, codes, Result}
 use Rattle.tokens.specs.declared.Name.{Name}
+use Rattle.tokens.specs.declared.Names.{Names as TheNames}
+use Rattle.tokens.specs.Tokens.{name_at, name_bytes}
 use Rattle.page.specs.declared.SmallPage.{SmallPage}
-use Rattle.print.specs.Lines.{name_at, name_bytes}
 use Rattle.print.specs.Printed.{Whole}
+use Rattle.rooms.specs.Rule.{Rule}
 use Rattle.run.specs.declared.answer.LetIn.{LetIn}
-use Rattle.run.specs.declared.state.Run.{Run}
-use Rattle.run.specs.Records.{Rule, begin, end, withdraw}
+use Rattle.run.specs.Records.{begin, end, withdraw}
 use Rattle.run.specs.Memory.{View, Carries}
 use Rattle.order_log.specs.declared.answer.Answer.{Answer}
 use Rattle.order_log.specs.declared.answer.Answer.TheVariants.{Begun as Began, Ended, Withdrawn}
@@ -35,6 +36,10 @@ let_in_by (called (begin a k r)) = []
 let_in_by (called (end a p ls r)) = ls
 let_in_by (called (withdraw u r)) = []
 
+-- how the names of a text spell an operation
+abbrev pub name_of : TheNames → ℕ → List ℕ
+name_of names a = name_bytes names.text.now names.records.now a
+
 -- how many an answer that is no refusal let in from the room
 abbrev pub done_count : Answer → ℕ
 done_count (Began a b) = 0
@@ -58,7 +63,7 @@ answer_lines name n list (Ok d) = done_lines name n list d
 answer_lines name n list (Err f) = refusal n f
 
 -- a ruling takes the run's memory from v to w: one without a call leaves it
-abbrev pub Carried : ℕ → Rule → View → View → Ruling → Type 0
+abbrev pub Carried : {R : Type 0} → ℕ → Rule → View R → View R → Ruling → Type 0
 Carried places rule v w (unlawful p) = w ≡ v
 Carried places rule v w unknown = w ≡ v
 Carried places rule v w (called r) = Carries places rule v w r
@@ -79,12 +84,12 @@ KnownOperation text names word (Ok a) = Names text names word a
 KnownOperation text names word (Err f) = (f ≡ UnknownName) × (ReadNames names → Foreign text names word)
 
 -- The answer r to a line is that of its ruling. The list's front holds those that it let in, and its rest what it held; a refusal leaves the run.
-pub record Asked {R : Type 0} (places : ℕ) (rule : Rule) (view : Run R → View) (text : List ℕ) (names : List Name) (line : List ℕ)
-    (run run' : Run R) (list list' : List LetIn) (r : Result Answer LogFault) : Type 0 where
+pub record Asked {R : Type 0} (places : ℕ) (rule : Rule) (text : List ℕ) (names : List Name) (line : List ℕ)
+    (run run' : View R) (list list' : List LetIn) (r : Result Answer LogFault) : Type 0 where
   pub ruling : Ruling
   pub ruled : ReadNames names → Ruled text names line ruling
   pub answered : r ≡ answer ruling
-  pub carried : Carried places rule (view run) (view run') ruling
+  pub carried : Carried places rule run run' ruling
   pub listed : take (let_in_count r) list' ≡ let_in_by ruling
   pub within : let_in_count r ≤ 256
   pub rest : drop (let_in_count r) list' ≡ drop (let_in_count r) list
@@ -92,10 +97,10 @@ pub record Asked {R : Type 0} (places : ℕ) (rule : Rule) (view : Run R → Vie
 
 -- The n bytes at the page's front are the print of the line's ruling, and the rest of the page is as it was. The ruling's call is carried by the run; the
 -- list's front holds those that it let in, and its rest what it held; a refusal leaves run and list.
-pub record RulingTold {R : Type 0} (places : ℕ) (rule : Rule) (view : Run R → View) (text : List ℕ) (names : List Name) (line : List ℕ) (number : ℕ)
-    (run run' : Run R) (list list' : List LetIn) (page page' : List ℕ) (n : ℕ) : Type 0 where
+pub record RulingTold {R : Type 0} (places : ℕ) (rule : Rule) (text : List ℕ) (names : List Name) (line : List ℕ) (number : ℕ)
+    (run run' : View R) (list list' : List LetIn) (page page' : List ℕ) (n : ℕ) : Type 0 where
   pub ruling : Ruling
-  pub carried : Carried places rule (view run) (view run') ruling
+  pub carried : Carried places rule run run' ruling
   pub listed : list' ≡ let_in_by ruling ++ drop (length (let_in_by ruling)) list
   pub keeps : Leaves (answer ruling) run run'
   pub within : n ≤ length page
@@ -103,6 +108,6 @@ pub record RulingTold {R : Type 0} (places : ℕ) (rule : Rule) (view : Run R �
   pub printed : ReadNames names → Whole (ruling_lines (name_bytes text names) number ruling) page page' n
 
 -- ruled and printed, or refused with nothing touched
-abbrev pub RuledLine : {R : Type 0} → ℕ → Rule → (Run R → View) → List ℕ → List Name → List ℕ → ℕ → Run R → Run R → List LetIn → List LetIn → List ℕ → List ℕ → Result ℕ SmallPage → Type 0
-RuledLine places rule view text names line number run run' list list' page page' (Ok n) = RulingTold places rule view text names line number run run' list list' page page' n
-RuledLine places rule view text names line number run run' list list' page page' (Err e) = (run' ≡ run) × (list' ≡ list) × (page' ≡ page)
+abbrev pub RuledLine : {R : Type 0} → ℕ → Rule → List ℕ → List Name → List ℕ → ℕ → View R → View R → List LetIn → List LetIn → List ℕ → List ℕ → Result ℕ SmallPage → Type 0
+RuledLine places rule text names line number run run' list list' page page' (Ok n) = RulingTold places rule text names line number run run' list list' page page' n
+RuledLine places rule text names line number run run' list list' page page' (Err e) = (run' ≡ run) × (list' ≡ list) × (page' ≡ page)

@@ -1,6 +1,8 @@
 -- The bytes of the lines that are printed for a log.
-use Rattle.std.specs.Prelude.{ℕ, List, [], ◌∷◌, ◌++◌, Some, None, Ok, Err, codes, decimal, Option}
+use Rattle.std.specs.Prelude.{ℕ, List, [], ◌∷◌, ◌++◌, Ok, Err, codes, decimal}
 use Rattle.std.specs.List.{flat_map}
+use Rattle.print.specs.Words.{line_of}
+use Rattle.print.specs.Lines.{place_words}
 use Rattle.run.specs.declared.answer.Begun.{Begun}
 use Rattle.run.specs.declared.answer.Begun.TheVariants.{In as Goes, Waits}
 use Rattle.run.specs.declared.answer.LetIn.{LetIn}
@@ -10,26 +12,17 @@ use Rattle.order_log.specs.declared.fault.LogFault.{LogFault}
 use Rattle.order_log.specs.declared.fault.LogFault.TheVariants.{Run as InRun}
 use Rattle.order_log.specs.Faults.{fault_number, fault_place}
 
--- words with a space between them, and byte 10
-abbrev pub line : List ℕ → List (List ℕ) → List ℕ
-line w [] = w ++ (10 ∷ [])
-line w (x ∷ xs) = w ++ (32 ∷ line x xs)
-
 -- `n NAME WORD TICKET`
 abbrev pub ticket_line : ℕ → List ℕ → List ℕ → ℕ → List ℕ
-ticket_line n name word ticket = line (decimal n) (name ∷ word ∷ decimal ticket ∷ [])
+ticket_line n name word ticket = line_of (decimal n) (name ∷ word ∷ decimal ticket ∷ [])
 
 -- `n NAME out`
 abbrev pub out_line : ℕ → List ℕ → List ℕ
-out_line n name = line (decimal n) (name ∷ codes "out" ∷ [])
+out_line n name = line_of (decimal n) (name ∷ codes "out" ∷ [])
 
 -- `n refused NUMBER`, and ` at PLACE` if there is a place
-abbrev pub refused_line : ℕ → ℕ → Option ℕ → List ℕ
-refused_line n number None = line (decimal n) (codes "refused" ∷ decimal number ∷ [])
-refused_line n number (Some place) = line (decimal n) (codes "refused" ∷ decimal number ∷ codes "at" ∷ decimal place ∷ [])
-
 abbrev pub refusal : ℕ → LogFault → List ℕ
-refusal n fault = refused_line n (fault_number fault) (fault_place fault)
+refusal n fault = line_of (decimal n) (codes "refused" ∷ decimal (fault_number fault) ∷ place_words (fault_place fault))
 
 -- `n NAME in TICKET` for one that the n-th line let in; name spells each operation
 abbrev pub let_in_line : (ℕ → List ℕ) → ℕ → LetIn → List ℕ
@@ -55,4 +48,4 @@ call_lines name n (withdraw u (Err f)) = refusal n (InRun f)
 
 -- `total ACCEPTED RUNNING WAITING ENDED WITHDRAWN`
 abbrev pub total_line : Totals → List ℕ
-total_line t = line (codes "total") (decimal t.accepted ∷ decimal t.running ∷ decimal t.waiting ∷ decimal t.ended ∷ decimal t.withdrawn ∷ [])
+total_line t = line_of (codes "total") (decimal t.accepted ∷ decimal t.running ∷ decimal t.waiting ∷ decimal t.ended ∷ decimal t.withdrawn ∷ [])

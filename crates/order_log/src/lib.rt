@@ -4,7 +4,6 @@
 mod answer;
 mod asking;
 pub mod fault;
-mod pieces;
 mod prints;
 mod ruling;
 

@@ -1,8 +1,10 @@
 // Writers of bytes and numbers into the part of a page that is still free.
 #![tactic(auto)]
 
-ghost use Rattle.std.specs.Prelude.{◌≡◌, ◌+◌, ◌/◌, ◌%◌, ◌≤◌, min, length, is_ok, decimal, nat_le};
+ghost use Rattle.std.specs.Prelude.{◌≡◌, ◌≤◌, length, is_ok, decimal, nat_le};
 ghost use Rattle.page.specs.Written.{Written, refusal_number};
+
+use itoa::Buffer;
 
 // The page has fewer than 16,384 bytes.
 #[derive(Clone, Copy)]
@@ -28,28 +30,13 @@ pub fn check_page(page: &[u8]) -> Result<(), SmallPage>
     }
 }
 
-// How many bytes fit.
-fn fitting(bytes: usize, room: usize) -> usize
-    ensures fitting { result ≡ min bytes room }
-{
-    bytes.min(room)
-}
-
 // Writes bytes at the front, as far as the part reaches, and answers how many were written.
 pub fn put(part: &mut [u8], bytes: &[u8]) -> usize
     ensures written { Written bytes.now part.old part.new result }
 {
-    let n = fitting(bytes.len(), part.len());
-    part[0..n].copy_from_slice(&bytes[0..n]);
+    let n = bytes.len().min(part.len());
+    part[..n].copy_from_slice(&bytes[..n]);
     n
-}
-
-// The digits of a number but the last, and the last as a byte.
-fn split(n: usize) -> (usize, u8)
-    ensures front { result.0 ≡ n / 10 }
-    ensures last { result.1 ≡ 48 + n % 10 }
-{
-    (n / 10, b'0' + (n % 10) as u8)
 }
 
 // Writes the decimal digits of a number at the front, as far as the part reaches, and answers how many were written.
@@ -57,10 +44,5 @@ pub fn put_number(part: &mut [u8], n: usize) -> usize
     ensures written { Written (decimal n) part.old part.new result }
     ensures short { length (decimal n) ≤ 20 }
 {
-    let (front, last) = split(n);
-    if front == 0 {
-        return put(part, &[last]);
-    }
-    let at = put_number(part, front);
-    at + put(&mut part[at..], &[last])
+    put(part, Buffer::new().format(n).as_bytes())
 }

@@ -1,24 +1,23 @@
--- One line more, and what a page holds where all fits.
-use Rattle.std.proofs.Common.{◌≡◌, ℕ, ◌+◌, ◌<◌, ◌≤◌, List, [], ◌∷◌, ◌++◌, length, get_or, take, drop, sym, ap, ◌∙◌, append_assoc, append-nil, arith}
-use Rattle.std.proofs.lemmas.List.{take_more, take_all, map_push}
-use Rattle.paths.specs.Doors.{Occurrence as TheOccurrence}
-use Rattle.tokens.specs.declared.Name.{Name}
-use Rattle.doors.specs.declared.Occurrence.{Occurrence}
-use Rattle.doors.specs.Told.{told, all_told}
+-- One piece more, and what a page holds where all fits.
+use Rattle.std.proofs.Common.{◌≡◌, ℕ, ◌+◌, ◌-◌, ◌<◌, ◌≤◌, List, ◌++◌, length, get_or, take, drop, sym, ap, ◌∙◌, arith, length-append}
+use Rattle.std.specs.List.{between, flat_map}
+use Rattle.std.proofs.lemmas.List.{flat_map_more, take_more, take_all}
+use borrow.Rule.Slice.PartMut.{put_mid}
 use Rattle.page.specs.Written.{Written}
-use Rattle.print.specs.Lines.{line, lines}
+use Rattle.page.proofs.Fill.{written_more, same_bytes}
 use Rattle.print.specs.Printed.{Whole}
 
-lines_push : (text : List ℕ) (names : List Name) (os : List TheOccurrence) (o : TheOccurrence) → lines text names os ++ line text names o ≡ lines text names (os ++ o ∷ [])
-lines_push text names [] o = sym (append-nil (line text names o))
-lines_push text names (p ∷ os) o = append_assoc (line text names p) (lines text names os) (line text names o) ∙ ap (λ l. line text names p ++ l) (lines_push text names os o)
+module _ {X : Type 0} (f : X → List ℕ) (bs : List ℕ) (xs : List X) (i : ℕ) (d : X) (here : i < length xs) where
+  -- the pieces of the first i items behind some bytes, and that of the item at i
+  one_piece : (bs ++ flat_map f (take i xs)) ++ f (get_or xs i d) ≡ bs ++ flat_map f (take (i + 1) xs)
+  one_piece = flat_map_more f bs (take i xs) (get_or xs i d) ∙ ap (λ l. bs ++ flat_map f l) (sym (take_more xs i d here))
 
--- the lines of the first i, and that of the record at i
-pub one_more_line : (text : List ℕ) (names : List Name) (xs : List Occurrence) (i : ℕ) (x : Occurrence) → i < length xs → x ≡ get_or xs i x →
-    lines text names (all_told (take i xs)) ++ line text names (told x) ≡ lines text names (all_told (take (i + 1) xs))
-one_more_line text names xs i x h e =
-    let more : take (i + 1) xs ≡ take i xs ++ x ∷ [] = take_more xs i x h ∙ ap (λ y. take i xs ++ y ∷ []) (sym e) in
-    lines_push text names (all_told (take i xs)) (told x) ∙ ap (lines text names) (sym (ap all_told more ∙ map_push told (take i xs) x))
+  pub piece_length : length (bs ++ flat_map f (take (i + 1) xs)) ≡ length (bs ++ flat_map f (take i xs)) + length (f (get_or xs i d))
+  piece_length = ap length (sym one_piece) ∙ length-append (bs ++ flat_map f (take i xs)) (f (get_or xs i d))
+
+  pub written_next : {old now part : List ℕ} {a b : ℕ} → Written (bs ++ flat_map f (take i xs)) old now a → Written (f (get_or xs i d)) (between a (length now) now) part b →
+      Written (bs ++ flat_map f (take (i + 1) xs)) old (put_mid a (length now - a) now part) (a + b)
+  written_next first second = same_bytes one_piece (written_more first second)
 
 -- bytes that fit are written whole
 pub whole : {bytes old new : List ℕ} {n : ℕ} → length bytes ≤ length old → Written bytes old new n → Whole bytes old new n

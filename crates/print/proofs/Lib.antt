@@ -1,3 +1,4 @@
 pub mod Joined
+pub mod Spaced
 pub mod Short
 pub mod Fits

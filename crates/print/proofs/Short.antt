@@ -3,9 +3,8 @@ use Rattle.std.proofs.Common.{◌≡◌, ℕ, zero, suc, ◌≤◌, Bool, true, 
 use Rattle.std.specs.List.{prefix_len}
 use Rattle.tokens.specs.declared.Token.{Token}
 use Rattle.tokens.specs.declared.Name.{Name}
-use Rattle.tokens.specs.Tokens.{Byte, blank, letter, digit, other, sign, byte, in_name, word_kind, token, Row, stopped, then, long_name, row_at, row_from, tokens, number_of, spelling}
+use Rattle.tokens.specs.Tokens.{Byte, blank, letter, digit, other, sign, byte, in_name, word_kind, token, Row, stopped, then, long_name, row_at, row_from, tokens, number_of, spelling, name_at}
 use Rattle.rules.specs.Names.{is_name, first_of, with_first, firsts_from, firsts}
-use Rattle.print.specs.Lines.{name_at}
 
 abbrev ShortTokens : List Token → Type 0
 ShortTokens [] = Unit {0}

@@ -1,7 +1,5 @@
 -- What a page holds after a print.
 use Rattle.std.specs.Prelude.{◌≡◌, ℕ, List, ◌++◌, length, drop, Ok, Err, Result}
-use Rattle.table.specs.declared.Table.{Table}
-use Rattle.table.specs.Contents.{contents}
 use Rattle.paths.specs.Grammar.{Text}
 use Rattle.paths.specs.Texts.{text_doors}
 use Rattle.tokens.specs.declared.Name.{Name}
@@ -28,8 +26,8 @@ abbrev pub Put : List ℕ → List ℕ → List ℕ → Result ℕ SmallPage →
 Put bytes old new (Ok n) = Written bytes old new n
 Put bytes old new (Err e) = new ≡ old
 
--- t is within the limits, and the tables hold the first occurrences of the text's names and the doors of t
-pub record DoorsOf (text : List ℕ) (names : Table Name) (occurrences : Table Occurrence) (t : Text) : Type 0 where
+-- t is within the limits, the names are the first occurrences of the text's names, and the occurrences are the doors of t
+pub record DoorsOf (text : List ℕ) (names : List Name) (occurrences : List Occurrence) (t : Text) : Type 0 where
   pub within : Within t
-  pub names_are : contents names ≡ firsts text (tokens text)
-  pub doors_are : all_told (contents occurrences) ≡ text_doors t 0 0 0
+  pub names_are : names ≡ firsts text (tokens text)
+  pub doors_are : all_told occurrences ≡ text_doors t 0 0 0

@@ -3,7 +3,8 @@
 
 mod doors_print;
 mod fault_print;
-mod pieces;
+mod words;
 
 pub use doors_print::print_doors;
 pub use fault_print::print_fault;
+pub use words::{Word, put_line};

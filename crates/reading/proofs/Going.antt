@@ -1,199 +1,137 @@
 -- How a reading goes on from step to step.
-use Rattle.std.proofs.Common.{◌≡◌, ℕ, ◌+◌, ◌-◌, ◌<◌, ◌≤◌, true, false, ◌≢◌, List, [], ◌∷◌, length, is_some, Some, None, Ok, Err, Option, Result, sym, refl, ap, ◌∙◌, subst, arith}
-use borrow.Author.Tests.{both_ways}
-use Rattle.paths.specs.Grammar.{Terminal, semicolon, comma, path}
+use Rattle.std.proofs.Common.{◌≡◌, ℕ, ◌-◌, ◌<◌, ◌≤◌, List, [], ◌∷◌, length, inl, inr, Ok, Err, Result, sym, refl, ap, ◌∙◌, subst, arith}
+use Rattle.std.specs.Result.{IsErrAnd}
+use Rattle.table.proofs.Rest.{kept_both}
+use Rattle.paths.specs.Grammar.{path, end}
 use Rattle.tokens.specs.declared.Kind.{Kind}
-use Rattle.tokens.specs.declared.Kind.TheVariants.{Semicolon, Comma, RoundOpen, RoundClose, BraceOpen, BraceClose, Path, End, Name}
 use Rattle.tokens.specs.declared.Token.{Token}
 use Rattle.tokens.specs.Tokens.{tokens, spelling, number_of}
 use Rattle.rules.specs.Names.{firsts, terminal_of, terminal}
-use Rattle.rules.specs.Rules.{open_brackets, Kept}
-use Rattle.rules.specs.Automaton.{Bracket, round_bracket, brace_bracket, State, start, between, before_element, behind_element, stuck, step, run}
+use Rattle.rules.specs.Rules.{open_brackets}
+use Rattle.rules.specs.Automaton.{Bracket, round_bracket, brace_bracket, State, between, before_element, behind_element, step}
 use Rattle.rules.proofs.Counts.{weight, load, brackets_open}
 use Rattle.rules.proofs.Admit.{none_breaks, alive}
-use Rattle.reading.specs.declared.GrammarFault.{GrammarFault}
+use Rattle.reading.specs.declared.Reading.{Reading}
 use Rattle.reading.specs.declared.ReadFault.{ReadFault}
-use Rattle.reading.specs.declared.ReadFault.TheVariants.{Grammar}
 use Rattle.reading.specs.Outcome.{Tells}
-use Rattle.reading.specs.State.{Desk, bytes, taken, row, standing, Ready, Onward, Went, Failed, Looped, open_count, Awaits, behind, closed_state, ElementRead, BracketRead, NotAhead, StuckWith, Advanced, PathDue, PathRead, refused_by}
-use Rattle.reading.proofs.Tables.{kept_both}
-use Rattle.reading.proofs.Went.{refuse}
+use Rattle.reading.specs.State.{Ahead, PathDue, bytes, taken, row, standing, Onward, Went, Failed, ReadTo, Opens, Awaits, behind}
 
 -- ---- one step and another
-pub onward_both : (d e f : Desk) → Onward d e → Onward e f → Onward d f
-onward_both d e f h k = record {
-  same = k.same ∙ h.same;
-  tokens_kept = kept_both d.tokens e.tokens f.tokens h.tokens_kept k.tokens_kept;
-  names_kept = kept_both d.names e.names f.names h.names_kept k.names_kept;
+pub onward_both : (r s q : Reading) → Onward r s → Onward s q → Onward r q
+onward_both r s q h k = record {
+  same_text = k.same_text ∙ h.same_text;
+  same_tokens = k.same_tokens ∙ h.same_tokens;
+  same_names = k.same_names ∙ h.same_names;
+  tokens_kept = kept_both r.tokens.now s.tokens.now q.tokens.now h.tokens_kept k.tokens_kept;
+  names_kept = kept_both r.names.now s.names.now q.names.now h.names_kept k.names_kept;
 }
 
-pub then_failed : (d e f : Desk) (x : ReadFault) → Onward d e → Failed e f x → Failed d f x
-then_failed d e f x h k = record {
-  onward = onward_both d e f h k.onward;
-  listed = k.listed ∙ ap (λ (t : List ℕ). firsts t (taken f)) h.same;
-  tells = subst (λ (t : List ℕ). Tells t (taken f) x) h.same k.tells;
-}
+pub then_failed : (r s q : Reading) (f : ReadFault) → Onward r s → Failed s q f → Failed r q f
+then_failed r s q f h k = record { onward = onward_both r s q h k.onward; tells = subst (λ (t : List ℕ). Tells t (taken q) f) h.same_text k.tells }
 
-then_went : (d e f : Desk) (s : State) → Onward d e → Went e f s → Went d f s
-then_went d e f s h k = record {
-  onward = onward_both d e f h k.onward;
-  ready = k.ready;
+pub then_went : (r s q : Reading) (x : State) → Onward r s → Went s q x → Went r q x
+then_went r s q x h k = record {
+  onward = onward_both r s q h k.onward;
   stands = k.stands;
   further = (let a = h.tokens_kept.grows in let b = k.further in omega arith);
 }
 
-of_kind : (text : List ℕ) (t : Token) (k : Kind) → t.kind ≡ k → terminal text t ≡ terminal_of k (number_of text (firsts text (tokens text)) (spelling text t))
-of_kind text t k e = ap (λ (j : Kind). terminal_of j (number_of text (firsts text (tokens text)) (spelling text t))) e
+pub then_read : (r s q : Reading) (x : State) (res : Result (Unit {0}) ReadFault) → Onward r s → ReadTo s q x res → ReadTo r q x res
+then_read r s q x (Ok u) h k = then_went r s q x h k
+then_read r s q x (Err f) h k = then_failed r s q f h k
 
--- ---- a bracket opens
--- the state behind a bracket that opens, where an element was due
-abbrev pub opened_by : Bracket → State → State
-opened_by b start = stuck
-opened_by b between = stuck
-opened_by b (before_element bs) = before_element (b ∷ bs)
-opened_by b (behind_element bs) = stuck
-opened_by b stuck = stuck
+-- a fault that `?` hands on
+pub then_err : (r s q : Reading) (x : State) (f : ReadFault) (res : Result (Unit {0}) ReadFault) → IsErrAnd res (λ e. e ≡ f) → Onward r s → Failed s q f → ReadTo r q x res
+then_err r s q x f (Ok u) e h k = absurd e
+then_err r s q x f (Err g) e h k = subst (λ (g : ReadFault). Failed r q g) (sym e) (then_failed r s q f h k)
 
--- the kind of a token that opens a bracket
-abbrev pub opener : Bracket → Kind
-opener round_bracket = RoundOpen
-opener brace_bracket = BraceOpen
+-- ---- a bracket
+-- the state behind a token that opens a bracket, where an element was due
+opened : (i j : Kind) (n : ℕ) (bs : List Bracket) → Opens i j → (b : Bracket) × (step (before_element bs) (terminal_of i n) ≡ before_element (b ∷ bs))
+    × (step (behind_element (b ∷ bs)) (terminal_of j 0) ≡ behind_element bs)
+opened i j n bs (inl o) = (
+  round_bracket,
+  ap (λ (k : Kind). step (before_element bs) (terminal_of k n)) o.0,
+  ap (λ (k : Kind). step (behind_element (round_bracket ∷ bs)) (terminal_of k 0)) o.1,
+)
+opened i j n bs (inr o) = (
+  brace_bracket,
+  ap (λ (k : Kind). step (before_element bs) (terminal_of k n)) o.0,
+  ap (λ (k : Kind). step (behind_element (brace_bracket ∷ bs)) (terminal_of k 0)) o.1,
+)
 
-opens : (b : Bracket) (k n : ℕ) (s : State) → Awaits k s → step s (terminal_of (opener b) n) ≡ opened_by b s
-opens b k n start a = absurd a
-opens b k n between a = absurd a
-opens round_bracket k n (before_element bs) a = refl
-opens brace_bracket k n (before_element bs) a = refl
-opens b k n (behind_element bs) a = absurd a
-opens b k n stuck a = absurd a
-
-by_opener : (b : Bracket) (k : ℕ) (d : Desk) (t : Token) → Awaits k (standing d) → t.kind ≡ opener b → step (standing d) (terminal (bytes d) t) ≡ opened_by b (standing d)
-by_opener b k d t a e = ap (step (standing d)) (of_kind (bytes d) t (opener b) e) ∙ opens b k _ (standing d) a
-
-weigh : (bs : List Bracket) → weight 1 1 bs ≡ open_count bs
+weigh : (bs : List Bracket) → weight 1 1 bs ≡ length bs
 weigh [] = refl
 weigh (round_bracket ∷ bs) = let i = weigh bs in omega arith
 weigh (brace_bracket ∷ bs) = let i = weigh bs in omega arith
 
-kept_depth : (l : List Terminal) (bs : List Bracket) → Kept l → run start l ≡ before_element bs → open_count bs ≤ 16
-kept_depth l bs k e =
-    let i = brackets_open 1 1 l (alive l k) in
+-- at most 16 brackets are open
+shallow : (r : Reading) (bs : List Bracket) → standing r ≡ before_element bs → length bs ≤ 16
+shallow r bs e =
+    let i = brackets_open 1 1 (row r) (alive (row r) r.kept) in
     let j = ap (load 1 1) e in
     let w = weigh bs in
-    let n = none_breaks l k open_brackets in
+    let n = none_breaks (row r) r.kept open_brackets in
     omega arith
 
-fewer : (b : Bracket) (k : ℕ) (s : State) (e : Desk) → Awaits k s → Ready e → standing e ≡ opened_by b s → (0 < k) × Awaits (k - 1) (standing e)
-fewer b k start e a h p = absurd a
-fewer b k between e a h p = absurd a
-fewer b k (before_element bs) e a h p =
-    let n = kept_depth (row e) (b ∷ bs) h.kept p in
-    (omega arith, subst (Awaits (k - 1)) (sym p) (let z : open_count (b ∷ bs) + (k - 1) ≡ 16 = omega arith in z))
-fewer b k (behind_element bs) e a h p = absurd a
-fewer b k stuck e a h p = absurd a
+-- at r an element is due, and e is behind the token that opens its bracket
+module _ (k : ℕ) (r e : Reading) (t : Token) (j : Kind) (a : Awaits k (standing r)) (o : Opens t.kind j) (h : Went r e (step (standing r) (terminal (bytes r) t))) where
+  bs : List Bracket
+  bs = a.0
 
--- so one bracket fewer may open
-pub deeper : (b : Bracket) (k : ℕ) (d e : Desk) (t : Token) → Awaits k (standing d) → t.kind ≡ opener b → Went d e (step (standing d) (terminal (bytes d) t)) →
-    (0 < k) × Awaits (k - 1) (standing e)
-deeper b k d e t a is h = fewer b k (standing d) e a h.ready (h.stands ∙ by_opener b k d t a is)
+  due : standing r ≡ before_element bs
+  unfolding bs
+  due = a.1
 
--- the state behind a bracket that opens, a sequence, and the bracket that closes
-closes_it : (b : Bracket) (k : ℕ) (s : State) → Awaits k s → closed_state (behind (opened_by b s)) ≡ behind s
-closes_it b k start a = absurd a
-closes_it b k between a = absurd a
-closes_it b k (before_element bs) a = refl
-closes_it b k (behind_element bs) a = absurd a
-closes_it b k stuck a = absurd a
+  n : ℕ
+  n = number_of (bytes r) (firsts (bytes r) (tokens (bytes r))) (spelling (bytes r) t)
 
-pub around : (b : Bracket) (k : ℕ) (d e f g : Desk) (t : Token) (res : Result (Unit {0}) ReadFault) → Awaits k (standing d) → t.kind ≡ opener b →
-    Went d e (step (standing d) (terminal (bytes d) t)) → Went e f (behind (standing e)) → BracketRead f g res → ElementRead d g res
-around b k d e f g t (Ok u) a is h i j =
-    let w = then_went d f g (closed_state (standing f)) (onward_both d e f h.onward i.onward) j in
-    subst (Went d g) (ap closed_state (i.stands ∙ ap behind (h.stands ∙ by_opener b k d t a is)) ∙ closes_it b k (standing d) a) w
-around b k d e f g t (Err x) a is h i j = then_failed d f g x (onward_both d e f h.onward i.onward) j
+  b : Bracket
+  b = (opened t.kind j n bs o).0
+
+  stands : standing e ≡ before_element (b ∷ bs)
+  unfolding b n
+  stands = h.stands ∙ ap (λ (s : State). step s (terminal (bytes r) t)) due ∙ (opened t.kind j n bs o).1
+
+  closes : step (behind_element (b ∷ bs)) (terminal_of j 0) ≡ behind_element bs
+  unfolding b
+  closes = (opened t.kind j n bs o).2
+
+  -- one bracket fewer may open
+  pub deeper : (0 < k) × Awaits (k - 1) (standing e)
+  unfolding bs
+  deeper =
+      let n = a.2 in
+      let m = shallow e (b ∷ bs) stands in
+      (omega arith, (b ∷ bs, stands, omega arith))
+
+  -- the sequence inside, and the token that closes the bracket
+  pub around : (f g : Reading) (res : Result (Unit {0}) ReadFault) → Went e f (behind (standing e)) → ReadTo f g (step (standing f) (terminal_of j 0)) res →
+      ReadTo r g (behind (standing r)) res
+  around f g res i c =
+      subst (λ (s : State). ReadTo r g s res)
+      (ap (λ (s : State). step s (terminal_of j 0)) (i.stands ∙ ap behind stands) ∙ closes ∙ sym (ap behind due))
+      (then_read r f g _ res (onward_both r e f h.onward i.onward) c)
 
 -- ---- a comma or a semicolon, and what it leads to
-leads_back : (k : ℕ) (s : State) (y : Terminal) → Awaits k s → ((bs : List Bracket) → step (behind_element bs) y ≡ before_element bs) → behind (step (behind s) y) ≡ behind s
-leads_back k start y a e = absurd a
-leads_back k between y a e = absurd a
-leads_back k (before_element bs) y a e = ap behind (e bs)
-leads_back k (behind_element bs) y a e = absurd a
-leads_back k stuck y a e = absurd a
-
--- the function began at d, the loop at d0, and this turn at l
-module _ (k : ℕ) (d d0 l e f : Desk) (t : Token) (y : Terminal) (a : Awaits k (standing d)) (first : Went d d0 (behind (standing d))) (inv : Looped d0 l)
-    (h : Went l e (step (standing l) (terminal (bytes l) t))) (i : Went e f (behind (standing e))) (is : terminal (bytes l) t ≡ y)
-    (back : (bs : List Bracket) → step (behind_element bs) y ≡ before_element bs) where
-  again : Looped d0 f
-  again = record {
-    onward = onward_both d0 l f inv.onward (onward_both l e f h.onward i.onward);
-    ready = i.ready;
-    stands =
-        i.stands ∙ ap behind h.stands ∙ ap (λ (x : Terminal). behind (step (standing l) x)) is ∙ ap (λ (s : State). behind (step s y)) (inv.stands ∙ first.stands)
-        ∙ leads_back k (standing d) y a back ∙ sym first.stands;
-  }
-
-pub again_comma : (k : ℕ) (d d0 l e f : Desk) (t : Token) → Awaits k (standing d) → Went d d0 (behind (standing d)) → Looped d0 l →
-    Went l e (step (standing l) (terminal (bytes l) t)) → Went e f (behind (standing e)) → t.kind ≡ Comma → Looped d0 f
-again_comma k d d0 l e f t a first inv h i is = again k d d0 l e f t comma a first inv h i (of_kind (bytes l) t Comma is) (λ bs. refl)
-
-pub again_semicolon : (k : ℕ) (d d0 l e f : Desk) (t : Token) → Awaits k (standing d) → Went d d0 (behind (standing d)) → Looped d0 l →
-    Went l e (step (standing l) (terminal (bytes l) t)) → Went e f (behind (standing e)) → t.kind ≡ Semicolon → Looped d0 f
-again_semicolon k d d0 l e f t a first inv h i is = again k d d0 l e f t semicolon a first inv h i (of_kind (bytes l) t Semicolon is) (λ bs. refl)
-
-pub out_of_loop : (d d0 l : Desk) (s : State) → Went d d0 s → Looped d0 l → Went d l s
-out_of_loop d d0 l s h i = record {
-  onward = onward_both d d0 l h.onward i.onward;
-  ready = i.ready;
-  stands = i.stands ∙ h.stands;
-  further = (let a = h.further in let b = i.onward.tokens_kept.grows in omega arith);
-}
+pub again : (k : ℕ) (r l e f : Reading) (t : Token) (j : Kind) → Awaits k (standing r) → ((bs : List Bracket) (n : ℕ) → step (behind_element bs) (terminal_of j n) ≡ before_element bs) →
+    Went r l (behind (standing r)) → t.kind ≡ j → Went l e (step (standing l) (terminal (bytes l) t)) → Went e f (behind (standing e)) → Went r f (behind (standing r))
+again k r l e f t j a back w is h i =
+    let bs = a.0 in
+    let due : standing r ≡ before_element bs = a.1 in
+    let n = number_of (bytes l) (firsts (bytes l) (tokens (bytes l))) (spelling (bytes l) t) in
+    let s : standing e ≡ before_element bs =
+    h.stands ∙ ap (λ (s : State). step s (terminal (bytes l) t)) (w.stands ∙ ap behind due) ∙ ap (λ (k : Kind). step (behind_element bs) (terminal_of k n)) is ∙ back bs n in
+    subst (Went r f) (ap behind s ∙ sym (ap behind due)) (then_went r e f _ (onward_both r l e w.onward h.onward) i)
 
 -- ---- a path
-begins : (s : State) (a : Option Token) → PathDue a s → step s path ≡ before_element []
-begins start a h = refl
-begins between a h = refl
-begins (before_element bs) a h = absurd h
-begins (behind_element bs) a h = absurd h
-begins stuck a h = absurd h
+-- the state behind the word `path`, a sequence, and the word `end`
+over : (a : Ahead) (s : State) → PathDue a s → step (behind (step s path)) end ≡ between
+over a s (inl e) = ap (λ (s : State). step (behind (step s path)) end) e
+over a s (inr e) = ap (λ (s : State). step (behind (step s path)) end) e.0
 
--- behind the sequence of a path
-pub within_path : (d e f : Desk) (a : Option Token) (t : Token) → PathDue a (standing d) → t.kind ≡ Path → Went d e (step (standing d) (terminal (bytes d) t)) →
-    Went e f (behind (standing e)) → Went d f (behind_element [])
-within_path d e f a t p is h i =
-    let q = ap (step (standing d)) (of_kind (bytes d) t Path is) ∙ begins (standing d) a p in
-    subst (Went d f) (ap behind (h.stands ∙ q)) (then_went d e f (behind (standing e)) h.onward i)
-
--- nothing but a comma, a semicolon or `end` may stand there
-stuck_there : (k : Kind) (n : ℕ) → k ≢ Comma → k ≢ Semicolon → k ≢ End → step (behind_element []) (terminal_of k n) ≡ stuck
-stuck_there Semicolon n x y z = absurd (y refl)
-stuck_there Comma n x y z = absurd (x refl)
-stuck_there RoundOpen n x y z = refl
-stuck_there RoundClose n x y z = refl
-stuck_there BraceOpen n x y z = refl
-stuck_there BraceClose n x y z = refl
-stuck_there Path n x y z = refl
-stuck_there End n x y z = absurd (z refl)
-stuck_there Name n x y z = refl
-
-no_end : (f : Desk) (a : Option Token) → standing f ≡ behind_element [] → NotAhead Comma a → NotAhead Semicolon a → NotAhead End a → StuckWith f a
-no_end f None e x y z = λ q. let c : ◌≡◌ {A = ℕ} 0 1 = cc in omega arith
-no_end f (Some t) e x y z =
-    ap (λ (s : State). step s (terminal (bytes f) t)) e ∙ stuck_there t.kind (number_of (bytes f) (firsts (bytes f) (tokens (bytes f))) (spelling (bytes f) t)) x y z
-
-pub refuse_there : (d f : Desk) (g : GrammarFault) → g ≡ refused_by f.reading.ahead (length (bytes f)) → Went d f (behind_element []) → NotAhead Comma f.reading.ahead →
-    NotAhead Semicolon f.reading.ahead → NotAhead End f.reading.ahead → Failed d f (Grammar g)
-refuse_there d f g p w x y z = then_failed d f f (Grammar g) w.onward (refuse f g p w.ready (no_end f f.reading.ahead w.stands x y z))
-
-pub path_over : (d f g : Desk) (t : Token) (res : Result (Unit {0}) ReadFault) → Went d f (behind_element []) → t.kind ≡ End → Advanced t f g res → PathRead d g res
-path_over d f g t (Ok u) h e i =
-    subst (Went d g) (ap (λ (s : State). step s (terminal (bytes f) t)) h.stands ∙ ap (step (behind_element [])) (of_kind (bytes f) t End e)) (then_went d f g _ h.onward i)
-path_over d f g t (Err x) h e i = then_failed d f g x h.onward i
-
--- ---- paths
-pub again_path : (d d0 l e : Desk) → Went d d0 between → Looped d0 l → Went l e between → Looped d0 e
-again_path d d0 l e h i j = record { onward = onward_both d0 l e i.onward j.onward; ready = j.ready; stands = j.stands ∙ sym h.stands }
-
-pub nothing_follows : (a : Option Token) → false ≡ is_some a → a ≡ None
-nothing_follows None e = refl
-nothing_follows (Some t) e = absurd (both_ways true (sym e) refl)
+pub whole_path : (r e f g : Reading) (res : Result (Unit {0}) ReadFault) → PathDue r.ahead (standing r) → Went r e (step (standing r) path) → Went e f (behind (standing e)) →
+    ReadTo f g (step (standing f) end) res → ReadTo r g between res
+whole_path r e f g res d h i c =
+    subst (λ (s : State). ReadTo r g s res) (ap (λ (s : State). step s end) (i.stands ∙ ap behind h.stands) ∙ over r.ahead (standing r) d)
+    (then_read r f g _ res (onward_both r e f h.onward i.onward) c)

@@ -1,5 +1,4 @@
-pub mod Tables
-pub mod Names
+pub mod Marks
 pub mod Taking
 pub mod Went
 pub mod Going

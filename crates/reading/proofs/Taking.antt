@@ -1,13 +1,15 @@
 -- One token more is taken, or passes a limit.
-use Rattle.std.proofs.Common.{◌≡◌, ℕ, ◌+◌, ◌<◌, ◌≤◌, Bool, true, false, ◌&&◌, ltb, ◌≢◌, List, [], ◌∷◌, ◌++◌, length, Some, sym, refl, ap, ◌∙◌, subst, arith, ltb-true, lt-ltb}
+use Rattle.std.proofs.Common.{◌≡◌, ℕ, ◌+◌, ◌<◌, ◌≤◌, true, false, ◌≢◌, List, [], ◌∷◌, ◌++◌, length, Option, Result, sym, refl, ap, ◌∙◌, subst, arith}
 use native.Mathlib.Decide.{dec_lt}
-use borrow.Author.Tests.{both_ways}
+use Rattle.std.proofs.lemmas.Bool.{both_ways}
+use Rattle.std.proofs.lemmas.List.{get_or_past}
 use Rattle.table.specs.Contents.{contents}
 use Rattle.paths.specs.Grammar.{Terminal, semicolon, comma, round_open, round_close, brace_open, brace_close, path, end, word}
 use Rattle.paths.specs.Words.{among}
 use Rattle.tokens.specs.declared.Kind.{Kind}
 use Rattle.tokens.specs.declared.Kind.TheVariants.{Semicolon, Comma, RoundOpen, RoundClose, BraceOpen, BraceClose, Path, End, Name}
 use Rattle.tokens.specs.declared.Token.{Token}
+use Rattle.tokens.specs.declared.BytesFault.{BytesFault}
 use Rattle.tokens.specs.Tokens.{tokens, spelling, number_of}
 use Rattle.rules.specs.Names.{firsts, terminal_of, terminal}
 use Rattle.rules.specs.Rules.{opening, closing, opened, closed, names_of, own_from, different}
@@ -18,12 +20,15 @@ use Rattle.rules.proofs.Automaton.{run_append}
 use Rattle.rules.proofs.Rows.{many_append}
 use Rattle.rules.proofs.Counts.{brackets_open}
 use Rattle.rules.proofs.Numbers.{numbered, numbers_stay, room_enough, number_bound, new_name, has_place}
-use Rattle.rules.proofs.Admit.{none_breaks, Plain, tell_again, tell_names, tell_occurrences, keep_name, tell_depth, tell_braces, tell_brackets, keep_bracket, tell_paths, keep_path, keep_other}
+use Rattle.rules.proofs.Admit.{Plain, tell_again, tell_names, tell_occurrences, keep_name, tell_depth, tell_braces, tell_brackets, keep_bracket, tell_paths, keep_path, keep_other}
 use Rattle.rules.proofs.Steps.{one_more}
 use Rattle.reading.specs.declared.Limit.{Limit}
 use Rattle.reading.specs.declared.Limit.TheVariants.{OpenBrackets, OpenBraces, NameOnce, Paths, Names, Occurrences, Brackets}
 use Rattle.reading.specs.Faults.{limit_number}
-use Rattle.reading.specs.State.{BracketTold, NameTold, PathTold, known_as, marked, Countable, Allowed, NotAllowed, Desk, bytes, taken, row, Follows, Ready, Fits}
+use Rattle.reading.specs.declared.Reading.{Reading}
+use Rattle.reading.specs.Counting.{known_as, marked, Closable, Allowed, Passes}
+use Rattle.reading.specs.Standing.{Follows}
+use Rattle.reading.specs.State.{bytes, taken, row, Fits}
 
 -- the rule that a limit stands for
 abbrev pub rule_of : Limit → Rule
@@ -67,9 +72,6 @@ word_number Path m n p = cc
 word_number End m n p = cc
 word_number Name m n p = cc
 
-name_number : (k : Kind) (m n : ℕ) → k ≡ Name → terminal_of k m ≡ word n → m ≡ n
-name_number k m n e p = word_number k m n p
-
 -- a terminal does not both open and close
 one_way : (r b : ℕ) (y : Terminal) (d : ℕ) → closing r b y ≤ d + opening r b y → closing r b y ≤ d
 one_way r b semicolon d h = omega arith
@@ -82,161 +84,137 @@ one_way r b path d h = omega arith
 one_way r b end d h = omega arith
 one_way r b (word n) d h = omega arith
 
-plain_round : Plain round_open
-plain_round = record { nameless = refl; inner = λ ns. refl; inside = refl }
+-- a terminal that opens a bracket does nothing else
+record Opening (y : Terminal) : Type 0 where
+  plain : Plain y
+  none_closes : closing 1 1 y ≡ 0
 
-plain_brace : Plain brace_open
-plain_brace = record { nameless = refl; inner = λ ns. refl; inside = refl }
+opening_is : (y : Terminal) → opening 1 1 y ≡ 1 → Opening y
+opening_is semicolon o = absurd (omega (arith, o))
+opening_is comma o = absurd (omega (arith, o))
+opening_is round_open o = record { plain = record { nameless = refl; inner = λ ns. refl; inside = refl }; none_closes = refl }
+opening_is round_close o = absurd (omega (arith, o))
+opening_is brace_open o = record { plain = record { nameless = refl; inner = λ ns. refl; inside = refl }; none_closes = refl }
+opening_is brace_close o = absurd (omega (arith, o))
+opening_is path o = absurd (omega (arith, o))
+opening_is end o = absurd (omega (arith, o))
+opening_is (word n) o = absurd (omega (arith, o))
 
 -- ---- the token that follows
-module _ (d : Desk) (t : Token) (h : Ready d) (f : Fits t d) where
-  pub reached : Reached (bytes d) (taken d ++ (t ∷ [])) d.reading.source.place
-  reached = subst (Follows (bytes d) (taken d) d.reading.source.place) f.0 h.follows
+module _ (r : Reading) (t : Token) (f : Fits t r) where
+  pub reached : Reached (bytes r) (taken r ++ (t ∷ [])) r.source.place
+  reached = subst (λ (a : Result (Option Token) BytesFault). Follows (bytes r) (taken r) r.source.place a) f.0 r.follows
 
   after : List Token
-  after = (one_more (bytes d) (taken d) d.reading.source.place t reached).0
+  after = (one_more (bytes r) (taken r) r.source.place t reached).0
 
-  cut : tokens (bytes d) ≡ taken d ++ (t ∷ after)
+  cut : tokens (bytes r) ≡ taken r ++ (t ∷ after)
   unfolding after
-  cut = (one_more (bytes d) (taken d) d.reading.source.place t reached).1
+  cut = (one_more (bytes r) (taken r) r.source.place t reached).1
 
   abbrev pub terminal_now : Terminal
-  terminal_now = known_as (bytes d) (contents d.names) t
+  terminal_now = known_as (bytes r) (contents r.names.now) t
 
   -- its number is known
-  pub known : terminal (bytes d) t ≡ terminal_now
+  pub known : terminal (bytes r) t ≡ terminal_now
   known =
-      same_terminal t.kind _ _ (λ e. name_number t.kind _ _ e (numbers_stay (bytes d) (taken d) after t cut e))
-      ∙ ap (λ fs. terminal_of t.kind (number_of (bytes d) fs (spelling (bytes d) t))) (sym h.listed)
+      same_terminal t.kind _ _ (λ e. word_number t.kind _ _ (numbers_stay (bytes r) (taken r) after t cut e))
+      ∙ ap (λ fs. terminal_of t.kind (number_of (bytes r) fs (spelling (bytes r) t))) (sym r.listed)
 
-  pub goes : run start (row d ++ (terminal_now ∷ [])) ≢ stuck
-  goes p = f.1 (sym (run_append start (row d) (terminal (bytes d) t ∷ [])) ∙ ap (λ (x : Terminal). run start (row d ++ (x ∷ []))) known ∙ p)
+  pub goes : run start (row r ++ (terminal_now ∷ [])) ≢ stuck
+  goes p = f.1 (sym (run_append start (row r) (terminal (bytes r) t ∷ [])) ∙ ap (λ (x : Terminal). run start (row r ++ (x ∷ []))) known ∙ p)
 
   -- what closes was open
-  closes : (r b k : ℕ) → k + closed r b (row d) ≡ opened r b (row d) → closing r b terminal_now ≤ k
-  closes r b k e =
-      let i = brackets_open r b (row d ++ (terminal_now ∷ [])) goes in
-      let j = many_append (opening r b) (row d) (terminal_now ∷ []) in
-      let l = many_append (closing r b) (row d) (terminal_now ∷ []) in
-      one_way r b terminal_now k (omega arith)
+  closes : (x b k : ℕ) → k + closed x b (row r) ≡ opened x b (row r) → closing x b terminal_now ≤ k
+  closes x b k e =
+      let i = brackets_open x b (row r ++ (terminal_now ∷ [])) goes in
+      let j = many_append (opening x b) (row r) (terminal_now ∷ []) in
+      let l = many_append (closing x b) (row r) (terminal_now ∷ []) in
+      one_way x b terminal_now k (omega arith)
 
-  pub countable : Countable d.reading.counts terminal_now
-  countable =
-      let c = h.counted in
-      record {
-        paths = (let n = none_breaks (row d) h.kept all_paths in let e = c.paths in omega arith);
-        occurrences = (let n = none_breaks (row d) h.kept all_occurrences in let e = c.occurrences in omega arith);
-        brackets = (let n = none_breaks (row d) h.kept all_brackets in let e = c.brackets in omega arith);
-        depth = (let n = none_breaks (row d) h.kept open_brackets in let e = c.depth in omega arith);
-        braces = (let n = none_breaks (row d) h.kept open_braces in let e = c.braces in omega arith);
-        close = closes 1 1 _ c.depth;
-        close_brace = closes 0 1 _ c.braces;
-      }
+  pub closable : Closable terminal_now r.counts
+  closable = (closes 1 1 _ r.counted.depth, closes 0 1 _ r.counted.braces)
 
   -- ---- a name
-  few_firsts : length (firsts (bytes d) (taken d)) ≤ 64
-  few_firsts = (room_enough (bytes d) (taken d) (t ∷ after) cut h.kept).1
+  few_firsts : length (firsts (bytes r) (taken r)) ≤ 64
+  few_firsts = (room_enough (bytes r) (taken r) (t ∷ after) cut r.kept).1
 
-  number_low : (n : ℕ) → terminal_now ≡ word n → n ≤ length (firsts (bytes d) (taken d))
+  number_low : (n : ℕ) → terminal_now ≡ word n → n ≤ length (firsts (bytes r) (taken r))
   number_low n e =
       let k = word_number t.kind _ n e in
-      let b = number_bound (bytes d) (contents d.names) (spelling (bytes d) t) in
-      let l = ap length h.listed in
+      let b = number_bound (bytes r) (contents r.names.now) (spelling (bytes r) t) in
+      let l = ap length r.listed in
       omega arith
 
-  and_true : (a b : Bool) → (a && b) ≡ true → (a ≡ true) × (b ≡ true)
-  and_true true b p = (refl, p)
-  and_true false b p = absurd (both_ways false refl p)
+  -- a number that is marked is low
+  low : (n : ℕ) → Dec (n < 64) → marked r.counts n ≡ true → n < 64
+  low n (yes l) m = l
+  low n (no l) m = absurd (both_ways _ (get_or_past r.counts.own n false (let w = r.counted.own.wide in omega arith)) m)
 
-  and_known : (a b : Bool) → a ≡ true → (a && b) ≡ false → b ≡ false
-  and_known true b p q = q
-  and_known false b p q = absurd (both_ways false refl p)
+  again : (n : ℕ) → marked r.counts n ≡ true → among n (own_from [] (row r)) ≡ true
+  again n m = sym (r.counted.own.marks n (low n (dec_lt n 64) m)) ∙ m
 
-  again : (n : ℕ) → marked d.reading n ≡ true → among n (own_from [] (row d)) ≡ true
-  again n m =
-      let e = and_true (ltb n 64) _ m in
-      sym (h.own.marks n (ltb-true n 64 e.0)) ∙ e.1
-
-  not_again : (n : ℕ) → marked d.reading n ≡ false → among n (own_from [] (row d)) ≡ false
+  not_again : (n : ℕ) → marked r.counts n ≡ false → among n (own_from [] (row r)) ≡ false
   not_again n m = go (dec_lt n 64)
     where
-      go : Dec (n < 64) → among n (own_from [] (row d)) ≡ false
-      go (yes l) = sym (h.own.marks n l) ∙ and_known (ltb n 64) _ (lt-ltb n 64 l) m
-      go (no l) = let k = few_firsts in (new_name (bytes d) (taken d) (t ∷ after) n cut (omega arith)).1
+      go : Dec (n < 64) → among n (own_from [] (row r)) ≡ false
+      go (yes l) = sym (r.counted.own.marks n l) ∙ m
+      go (no l) = let k = few_firsts in (new_name (bytes r) (taken r) (t ∷ after) n cut (omega arith)).1
 
   -- ---- which limit it passes
-  bracket_told : (y : Terminal) (b : ℕ) → opening 1 1 y ≡ 1 → opening 0 1 y ≡ b → closing 1 1 y ≡ 0 → closing 0 1 y ≡ 0 → Plain y →
-      run start (row d ++ (y ∷ [])) ≢ stuck → (l : Limit) → BracketTold b d.reading.counts l → Told (rule_of l) (row d ++ (y ∷ []))
-  bracket_told y b o p z w q g OpenBrackets k = tell_depth (row d) y h.kept g o q _ _ h.counted.depth h.counted.braces z k
-  bracket_told y b o p z w q g OpenBraces k = tell_braces (row d) y h.kept g o q _ _ h.counted.depth h.counted.braces w k.0 (let m = k.1 in omega arith)
-  bracket_told y b o p z w q g NameOnce k = absurd k
-  bracket_told y b o p z w q g Paths k = absurd k
-  bracket_told y b o p z w q g Names k = absurd k
-  bracket_told y b o p z w q g Occurrences k = absurd k
-  bracket_told y b o p z w q g Brackets k =
-      tell_brackets (row d) y h.kept g o q _ _ h.counted.depth h.counted.braces k.0 (let m = k.1 in omega arith) (let m = k.2 in let e = h.counted.brackets in omega arith)
+  placed : (n : ℕ) → n < 64 → among n (names_of (row r)) ≡ false → different (names_of (row r)) < 64
+  placed n l = has_place (bytes r) (taken r) (t ∷ after) n cut l
 
-  path_told : run start (row d ++ (path ∷ [])) ≢ stuck → (l : Limit) → PathTold d.reading.counts l → Told (rule_of l) (row d ++ (path ∷ []))
-  path_told g OpenBrackets k = absurd k
-  path_told g OpenBraces k = absurd k
-  path_told g NameOnce k = absurd k
-  path_told g Paths k = tell_paths (row d) h.kept g (let e = h.counted.paths in omega arith)
-  path_told g Names k = absurd k
-  path_told g Occurrences k = absurd k
-  path_told g Brackets k = absurd k
+  -- the terminal by its name
+  at : (x : Rule) (y : Terminal) → terminal_now ≡ y → Told x (row r ++ (y ∷ [])) → Told x (row r ++ (terminal_now ∷ []))
+  at x y e = subst (λ (y : Terminal). Told x (row r ++ (y ∷ []))) (sym e)
 
-  placed : (n : ℕ) → n < 64 → among n (names_of (row d)) ≡ false → different (names_of (row d)) < 64
-  placed n l = has_place (bytes d) (taken d) (t ∷ after) n cut l
+  goes_at : (y : Terminal) → terminal_now ≡ y → run start (row r ++ (y ∷ [])) ≢ stuck
+  goes_at y e p = goes (ap (λ (y : Terminal). run start (row r ++ (y ∷ []))) e ∙ p)
 
-  name_told : (n : ℕ) → terminal_now ≡ word n → run start (row d ++ (word n ∷ [])) ≢ stuck → (l : Limit) →
-      NameTold (marked d.reading n) n d.reading.counts.occurrences (Some l) → Told (rule_of l) (row d ++ (word n ∷ []))
-  name_told n e g OpenBrackets k = absurd k
-  name_told n e g OpenBraces k = absurd k
-  name_told n e g NameOnce k = tell_again (row d) n h.kept g (again n k)
-  name_told n e g Paths k = absurd k
-  name_told n e g Names k =
-      let a = number_low n e in
-      let c = (numbered (bytes d) (taken d) (t ∷ after) cut).count in
+  pub limit_told : (l : Limit) → Passes terminal_now r.counts l → Told (rule_of l) (row r ++ (terminal_now ∷ []))
+  limit_told OpenBrackets k =
+      let o = opening_is terminal_now k.0 in
+      tell_depth (row r) terminal_now r.kept goes k.0 o.plain _ _ r.counted.depth r.counted.braces o.none_closes k.1
+  limit_told OpenBraces k =
+      at open_braces brace_open k.0
+      (tell_braces (row r) brace_open r.kept (goes_at brace_open k.0) refl (opening_is brace_open refl).plain _ _ r.counted.depth r.counted.braces refl k.1 (omega (arith, k.2)))
+  limit_told NameOnce k = at name_once (word k.0) k.1 (tell_again (row r) k.0 r.kept (goes_at (word k.0) k.1) (again k.0 k.2))
+  limit_told Paths k = at all_paths path k.0 (tell_paths (row r) r.kept (goes_at path k.0) (omega (arith, k.1, r.counted.paths)))
+  limit_told Names k =
+      let n = k.0 in
+      let a = number_low n k.1 in
+      let c = (numbered (bytes r) (taken r) (t ∷ after) cut).count in
       let l = few_firsts in
-      let m = k.1 in
-      tell_names (row d) n h.kept g (not_again n k.0) (new_name (bytes d) (taken d) (t ∷ after) n cut (omega arith)).0 (omega arith)
-  name_told n e g Occurrences k =
-      tell_occurrences (row d) n h.kept g (not_again n k.0) (placed n k.1) (let m = k.2 in let e = h.counted.occurrences in omega arith)
-  name_told n e g Brackets k = absurd k
-
-  pub limit_told : (l : Limit) → NotAllowed terminal_now d.reading l → Told (rule_of l) (row d ++ (terminal_now ∷ []))
-  limit_told l k = go terminal_now refl goes k
-    where
-      go : (y : Terminal) → terminal_now ≡ y → run start (row d ++ (y ∷ [])) ≢ stuck → NotAllowed y d.reading l → Told (rule_of l) (row d ++ (y ∷ []))
-      go semicolon e g k = absurd k
-      go comma e g k = absurd k
-      go round_open e g k = bracket_told round_open 0 refl refl refl refl plain_round g l k
-      go round_close e g k = absurd k
-      go brace_open e g k = bracket_told brace_open 1 refl refl refl refl plain_brace g l k
-      go brace_close e g k = absurd k
-      go path e g k = path_told g l k
-      go end e g k = absurd k
-      go (word n) e g k = name_told n e g l k
+      let m = k.3 in
+      at all_names (word n) k.1
+      (tell_names (row r) n r.kept (goes_at (word n) k.1) (not_again n k.2) (new_name (bytes r) (taken r) (t ∷ after) n cut (omega arith)).0 (omega arith))
+  limit_told Occurrences k =
+      at all_occurrences (word k.0) k.1
+      (tell_occurrences (row r) k.0 r.kept (goes_at (word k.0) k.1) (not_again k.0 k.2) (placed k.0 k.3) (omega (arith, k.4, r.counted.occurrences)))
+  limit_told Brackets k =
+      let o = opening_is terminal_now k.0 in
+      tell_brackets (row r) terminal_now r.kept goes k.0 o.plain _ _ r.counted.depth r.counted.braces k.1 k.2 (omega (arith, k.3, r.counted.brackets))
 
   -- ---- or none
-  bracket_kept : (y : Terminal) (b : ℕ) → opening 1 1 y ≡ 1 → opening 0 1 y ≡ b → Plain y → run start (row d ++ (y ∷ [])) ≢ stuck →
-      d.reading.counts.depth < 16 → d.reading.counts.braces + b ≤ 1 → d.reading.counts.brackets < 256 → Kept (row d ++ (y ∷ []))
-  bracket_kept y b o p q g i j k =
-      keep_bracket (row d) y h.kept g o q _ _ h.counted.depth h.counted.braces i (omega arith) (let e = h.counted.brackets in omega arith)
+  bracket_kept : (y : Terminal) → opening 1 1 y ≡ 1 → run start (row r ++ (y ∷ [])) ≢ stuck → r.counts.depth < 16 → r.counts.braces + opening 0 1 y ≤ 1 →
+      r.counts.brackets < 256 → Kept (row r ++ (y ∷ []))
+  bracket_kept y o g i j k =
+      keep_bracket (row r) y r.kept g o (opening_is y o).plain _ _ r.counted.depth r.counted.braces i j (omega (arith, k, r.counted.brackets))
 
-  other_kept : (y : Terminal) → opening 1 1 y ≡ 0 → opening 0 1 y ≡ 0 → Plain y → run start (row d ++ (y ∷ [])) ≢ stuck → Kept (row d ++ (y ∷ []))
-  other_kept y o p q g = keep_other (row d) y h.kept g o p q
+  other_kept : (y : Terminal) → opening 1 1 y ≡ 0 → opening 0 1 y ≡ 0 → Plain y → run start (row r ++ (y ∷ [])) ≢ stuck → Kept (row r ++ (y ∷ []))
+  other_kept y o p q g = keep_other (row r) y r.kept g o p q
 
-  pub allowed_kept : Allowed terminal_now d.reading → Kept (row d ++ (terminal_now ∷ []))
+  pub allowed_kept : Allowed terminal_now r.counts → Kept (row r ++ (terminal_now ∷ []))
   allowed_kept a = go terminal_now goes a
     where
-      go : (y : Terminal) → run start (row d ++ (y ∷ [])) ≢ stuck → Allowed y d.reading → Kept (row d ++ (y ∷ []))
+      go : (y : Terminal) → run start (row r ++ (y ∷ [])) ≢ stuck → Allowed y r.counts → Kept (row r ++ (y ∷ []))
       go semicolon g a = other_kept semicolon refl refl (record { nameless = refl; inner = λ ns. refl; inside = refl }) g
       go comma g a = other_kept comma refl refl (record { nameless = refl; inner = λ ns. refl; inside = refl }) g
-      go round_open g a = bracket_kept round_open 0 refl refl plain_round g a.0 a.1 a.2
+      go round_open g a = bracket_kept round_open refl g a.0 (omega (arith, r.counts.single)) a.1
       go round_close g a = other_kept round_close refl refl (record { nameless = refl; inner = λ ns. refl; inside = refl }) g
-      go brace_open g a = bracket_kept brace_open 1 refl refl plain_brace g a.0 a.1 a.2
+      go brace_open g a = bracket_kept brace_open refl g a.0 (omega (arith, a.1)) a.2
       go brace_close g a = other_kept brace_close refl refl (record { nameless = refl; inner = λ ns. refl; inside = refl }) g
-      go path g a = keep_path (row d) h.kept g (let e = h.counted.paths in omega arith)
+      go path g a = keep_path (row r) r.kept g (let e = r.counted.paths in omega arith)
       go end g a = other_kept end refl refl (record { nameless = refl; inner = λ ns. refl; inside = refl }) g
-      go (word n) g a = keep_name (row d) n h.kept g (not_again n a.0) (placed n a.1) (let m = a.2 in let e = h.counted.occurrences in omega arith)
+      go (word n) g a = keep_name (row r) n r.kept g (not_again n a.0) (placed n a.1) (let m = a.2 in let e = r.counted.occurrences in omega arith)

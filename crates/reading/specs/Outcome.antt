@@ -1,5 +1,5 @@
 -- What reading a text answers, and what the tables then hold.
-use Rattle.std.specs.Prelude.{◌≡◌, ℕ, ◌<◌, ◌≤◌, Bool, true, false, ◌⊎◌, List, length, drop, Some, Ok, Err, Result}
+use Rattle.std.specs.Prelude.{◌≡◌, ℕ, ◌<◌, ◌≤◌, Bool, true, false, ◌⊎◌, List, length, Some, Ok, Err, Result}
 use Rattle.table.specs.declared.Table.{Table}
 use Rattle.table.specs.Contents.{contents, all_places}
 use Rattle.paths.specs.Grammar.{Text}
@@ -11,6 +11,9 @@ use Rattle.rules.specs.Names.{firsts}
 use Rattle.rules.specs.Rules.{different, paths_of_text}
 use Rattle.rules.specs.Faults.{Refused, Derives, Derivable}
 use Rattle.reading.specs.declared.Read.{Read}
+use Rattle.tokens.specs.declared.BytesFault.TheVariants.{TooLong}
+use Rattle.reading.specs.declared.GrammarFault.{GrammarFault}
+use Rattle.reading.specs.declared.GrammarFault.TheVariants.{Bytes}
 use Rattle.reading.specs.declared.ReadFault.{ReadFault}
 use Rattle.reading.specs.declared.ReadFault.TheVariants.{Grammar, Rule, TooFewPlaces}
 use Rattle.reading.specs.Faults.{fault_number, fault_place}
@@ -22,11 +25,6 @@ Enough ts ns = (1088 ≤ length (all_places ts)) × (64 ≤ length (all_places n
 -- a table has fewer
 abbrev pub Lacking : Table Token → Table Name → Type 0
 Lacking ts ns = (length (all_places ts) < 1088) ⊎ (length (all_places ns) < 64)
-
--- the table has as many places as before, and those behind the last record hold what they held
-pub record RestSame {T : Type 0} (t t' : Table T) : Type 0 where
-  pub places : length (all_places t') ≡ length (all_places t)
-  pub rest : drop (length (contents t')) (all_places t') ≡ drop (length (contents t')) (all_places t)
 
 -- the fault is the text's first, behind the tokens before
 abbrev pub Tells : List ℕ → List Token → ReadFault → Type 0
@@ -62,3 +60,8 @@ Answered text ts ns ts' ns' (Err TooFewPlaces) = Lacking ts ns × (ts' ≡ ts) �
 abbrev pub Measured : Table Token → Table Name → Bool → Type 0
 Measured ts ns true = Enough ts ns
 Measured ts ns false = Lacking ts ns
+
+-- a text of n bytes is short enough to be read, or it is at fault
+abbrev pub Judged : ℕ → Result (Unit {0}) GrammarFault → Type 0
+Judged n (Ok u) = n ≤ 16384
+Judged n (Err g) = (16384 < n) × (g ≡ Bytes TooLong)

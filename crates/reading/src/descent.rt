@@ -1,122 +1,111 @@
-ghost use Rattle.std.specs.Prelude.{◌≡◌, ◌-◌, ◌<◌};
-ghost use Rattle.tokens.specs.declared.Kind.TheVariants.{Semicolon as SemicolonKind, Comma as CommaKind};
-ghost use Rattle.rules.specs.Automaton.{start};
-ghost use Rattle.reading.specs.State.{together, standing, Ready, Awaits, Closable, NotAhead, ElementRead, SelectionRead, SequenceRead, BracketRead, PathDue, PathRead, PathsRead};
-
 use super::{ReadFault, Reading};
-use table::Table;
-use tokens::{Kind, Name, Token};
+use tokens::{Kind, Token};
 
-impl<'a> Reading<'a> {
+impl Reading<'_, '_, '_, '_, '_> {
+    ghost use Rattle.std.specs.Prelude.{◌≡◌, ◌-◌, ◌<◌, Ok, Some, None, OnOk};
+    ghost use Rattle.rules.specs.Automaton.{start, between};
+    ghost use Rattle.reading.specs.State.{standing, Awaits, Opens, Fits, NotAhead, PathDue, ReadTo, behind};
+
     // One or more selections with `;` between them; `depth` brackets more may open.
-    #[cycle(element_selection_sequence)]
-    fn sequence(
-        &mut self,
-        tokens: &mut Table<Token>,
-        names: &mut Table<Name>,
-        depth: u8,
-    ) -> Result<(), ReadFault>
-        requires { Ready (together self.old tokens.old names.old) × Awaits depth (standing (together self.old tokens.old names.old)) }
-        ensures sequence { SequenceRead (together self.old tokens.old names.old) (together self.new tokens.new names.new) result }
+    #[cycle(element_bracket_selection_sequence)]
+    #[tactic(auto, using(crate::proofs::Went::few))]
+    fn sequence(&mut self, depth: u8) -> Result<(), ReadFault>
+        requires { Awaits depth (standing self.old) }
+        ensures sequence { ReadTo self.old self.new (behind (standing self.old)) result }
+        ensures over { OnOk result (NotAhead Kind.Comma self.new.ahead × NotAhead Kind.Semicolon self.new.ahead) }
     {
-        self.selection(tokens, names, depth)?;
+        self.selection(depth)?;
         while let Some(token) = self.ahead_is(Kind::Semicolon) {
-            self.advance(tokens, names, token)?;
-            self.selection(tokens, names, depth)?;
+            self.advance(token)?;
+            self.selection(depth)?;
         }
         Ok(())
     }
 
     // One or more elements with `,` between them.
-    #[cycle(element_selection_sequence)]
-    fn selection(
-        &mut self,
-        tokens: &mut Table<Token>,
-        names: &mut Table<Name>,
-        depth: u8,
-    ) -> Result<(), ReadFault>
-        requires { Ready (together self.old tokens.old names.old) × Awaits depth (standing (together self.old tokens.old names.old)) }
-        ensures selection { SelectionRead (together self.old tokens.old names.old) (together self.new tokens.new names.new) result }
+    #[cycle(element_bracket_selection_sequence)]
+    #[tactic(auto, using(crate::proofs::Went::few))]
+    fn selection(&mut self, depth: u8) -> Result<(), ReadFault>
+        requires { Awaits depth (standing self.old) }
+        ensures selection { ReadTo self.old self.new (behind (standing self.old)) result }
+        ensures over { OnOk result (NotAhead Kind.Comma self.new.ahead) }
     {
-        self.element(tokens, names, depth)?;
+        self.element(depth)?;
         while let Some(token) = self.ahead_is(Kind::Comma) {
-            self.advance(tokens, names, token)?;
-            self.element(tokens, names, depth)?;
+            self.advance(token)?;
+            self.element(depth)?;
         }
         Ok(())
     }
 
     // A name, or a sequence between round brackets, or a sequence between braces.
-    #[cycle(element_selection_sequence)]
-    fn element(
-        &mut self,
-        tokens: &mut Table<Token>,
-        names: &mut Table<Name>,
-        depth: u8,
-    ) -> Result<(), ReadFault>
-        requires { Ready (together self.old tokens.old names.old) × Awaits depth (standing (together self.old tokens.old names.old)) }
-        ensures element { ElementRead (together self.old tokens.old names.old) (together self.new tokens.new names.new) result }
+    #[cycle(element_bracket_selection_sequence)]
+    fn element(&mut self, depth: u8) -> Result<(), ReadFault>
+        requires { Awaits depth (standing self.old) }
+        ensures element { ReadTo self.old self.new (behind (standing self.old)) result }
     {
-        if let Some(token) = self.ahead_is(Kind::Name) {
-            return self.advance(tokens, names, token);
+        match self.ahead {
+            Ok(
+                Some(
+                    token @ Token {
+                        kind: Kind::Name,
+                        ..
+                    },
+                ),
+            ) => self.advance(token),
+            Ok(
+                Some(
+                    token @ Token {
+                        kind: Kind::RoundOpen,
+                        ..
+                    },
+                ),
+            ) => { self.bracket(token, Kind::RoundClose, depth) }
+            Ok(
+                Some(
+                    token @ Token {
+                        kind: Kind::BraceOpen,
+                        ..
+                    },
+                ),
+            ) => { self.bracket(token, Kind::BraceClose, depth) }
+            _ => Err(self.refusal().into()),
         }
-        if let Some(token) = self.ahead_is(Kind::RoundOpen) {
-            self.advance(tokens, names, token)?;
-            self.sequence(tokens, names, depth - 1)?;
-            return self.close(tokens, names, Kind::RoundClose);
-        }
-        if let Some(token) = self.ahead_is(Kind::BraceOpen) {
-            self.advance(tokens, names, token)?;
-            self.sequence(tokens, names, depth - 1)?;
-            return self.close(tokens, names, Kind::BraceClose);
-        }
-        Err(ReadFault::Grammar(self.refusal()))
     }
 
-    // The bracket that closes the innermost open one.
-    fn close(
-        &mut self,
-        tokens: &mut Table<Token>,
-        names: &mut Table<Name>,
-        kind: Kind,
-    ) -> Result<(), ReadFault>
-        requires { Ready (together self.old tokens.old names.old) × Closable kind (standing (together self.old tokens.old names.old)) × NotAhead SemicolonKind self.old.ahead × NotAhead CommaKind self.old.ahead }
-        ensures bracket { BracketRead (together self.old tokens.old names.old) (together self.new tokens.new names.new) result }
+    // A sequence between the bracket that follows and the one that closes it.
+    #[cycle(element_bracket_selection_sequence)]
+    fn bracket(&mut self, token: Token, close: Kind, depth: u8) -> Result<(), ReadFault>
+        requires awaits { Awaits depth (standing self.old) }
+        requires ahead { self.old.ahead ≡ Ok (Some token) }
+        requires opens { Opens token.kind close }
+        ensures bracket { ReadTo self.old self.new (behind (standing self.old)) result }
     {
-        if let Some(token) = self.ahead_is(kind) {
-            return self.advance(tokens, names, token);
-        }
-        Err(ReadFault::Grammar(self.refusal()))
+        self.advance(token)?;
+        self.sequence(depth - 1)?;
+        self.take(close)
     }
 
     // The word `path`, a sequence, the word `end`.
-    fn path(&mut self, tokens: &mut Table<Token>, names: &mut Table<Name>) -> Result<(), ReadFault>
-        requires { Ready (together self.old tokens.old names.old) × PathDue self.old.ahead (standing (together self.old tokens.old names.old)) }
-        ensures path { PathRead (together self.old tokens.old names.old) (together self.new tokens.new names.new) result }
+    fn path(&mut self) -> Result<(), ReadFault>
+        requires { PathDue self.old.ahead (standing self.old) }
+        ensures path { ReadTo self.old self.new between result }
     {
-        let Some(first) = self.ahead_is(Kind::Path) else {
-            return Err(ReadFault::Grammar(self.refusal()));
-        };
-        self.advance(tokens, names, first)?;
-        self.sequence(tokens, names, 16)?;
-        let Some(last) = self.ahead_is(Kind::End) else {
-            return Err(ReadFault::Grammar(self.refusal()));
-        };
-        self.advance(tokens, names, last)
+        self.take(Kind::Path)?;
+        self.sequence(16)?;
+        self.take(Kind::End)
     }
 
     // One or more paths, to the text's end.
-    pub fn paths(
-        &mut self,
-        tokens: &mut Table<Token>,
-        names: &mut Table<Name>,
-    ) -> Result<(), ReadFault>
-        requires { Ready (together self.old tokens.old names.old) × (standing (together self.old tokens.old names.old) ≡ start) }
-        ensures paths { PathsRead (together self.old tokens.old names.old) (together self.new tokens.new names.new) result }
+    #[tactic(auto, using(crate::proofs::Went::few))]
+    pub fn paths(&mut self) -> Result<(), ReadFault>
+        requires { standing self.old ≡ start }
+        ensures paths { ReadTo self.old self.new between result }
+        ensures over { OnOk result (self.new.ahead ≡ Ok None) }
     {
-        self.path(tokens, names)?;
-        while self.ahead.is_some() {
-            self.path(tokens, names)?;
+        self.path()?;
+        while !matches!(self.ahead, Ok(None)) {
+            self.path()?;
         }
         Ok(())
     }

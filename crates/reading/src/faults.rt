@@ -27,15 +27,7 @@ impl Limit {
     fn number(self) -> u8
         ensures number { result ≡ limit_number self }
     {
-        match self {
-            Limit::OpenBrackets => 6,
-            Limit::OpenBraces => 7,
-            Limit::NameOnce => 8,
-            Limit::Paths => 9,
-            Limit::Names => 10,
-            Limit::Occurrences => 11,
-            Limit::Brackets => 12,
-        }
+        self as u8
     }
 }
 
@@ -61,8 +53,9 @@ impl ReadFault {
     {
         match self {
             ReadFault::Grammar(GrammarFault::Bytes(_)) => Stage::Bytes,
-            ReadFault::Grammar(GrammarFault::Unexpected(_)) => Stage::Grammar,
-            ReadFault::Grammar(GrammarFault::Short(_)) => Stage::Grammar,
+            ReadFault::Grammar(GrammarFault::Unexpected(_) | GrammarFault::Short(_)) => {
+                Stage::Grammar
+            }
             ReadFault::Rule(_, _) => Stage::Rules,
             ReadFault::TooFewPlaces => Stage::Call,
         }
@@ -74,11 +67,12 @@ impl ReadFault {
     {
         match self {
             ReadFault::Grammar(GrammarFault::Bytes(BytesFault::TooLong)) => Some(16_384),
-            ReadFault::Grammar(GrammarFault::Bytes(BytesFault::NoToken(place))) => Some(place),
-            ReadFault::Grammar(GrammarFault::Bytes(BytesFault::LongName(place))) => Some(place),
-            ReadFault::Grammar(GrammarFault::Unexpected(place)) => Some(place),
-            ReadFault::Grammar(GrammarFault::Short(place)) => Some(place),
-            ReadFault::Rule(_, place) => Some(place),
+            ReadFault::Grammar(
+                GrammarFault::Bytes(BytesFault::NoToken(place) | BytesFault::LongName(place))
+                | GrammarFault::Unexpected(place)
+                | GrammarFault::Short(place),
+            )
+            | ReadFault::Rule(_, place) => Some(place),
             ReadFault::TooFewPlaces => None,
         }
     }

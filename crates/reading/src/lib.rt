@@ -1,7 +1,16 @@
 // Reads a text into its tokens and its names, or tells its first fault.
 #![tactic(auto)]
 
-use tokens::{BytesFault, Token, TokenReader};
+ghost use Rattle.std.specs.Prelude.{◌≡◌, ◌≤◌, length};
+ghost use Rattle.table.specs.Contents.{contents, all_places};
+ghost use Rattle.tokens.specs.Reader.{bytes};
+ghost use Rattle.rules.specs.Names.{firsts, terminals};
+ghost use Rattle.rules.specs.Rules.{Kept};
+ghost use Rattle.reading.specs.Standing.{Follows, Follows-prop, Counted};
+
+use counting::Counts;
+use table::Table;
+use tokens::{BytesFault, Name, Token, TokenReader};
 
 mod counting;
 mod descent;
@@ -9,11 +18,11 @@ mod faults;
 mod steps;
 pub mod text;
 
-// A limit or path condition of a text.
+// A limit or path condition of a text, by the number of the fault of passing it.
 #[derive(Clone, Copy)]
 pub enum Limit {
     // at most 16 brackets open at once
-    OpenBrackets,
+    OpenBrackets = 6,
     // no brace inside a brace
     OpenBraces,
     // no name twice in its path
@@ -69,22 +78,22 @@ pub struct Read {
     occurrences: usize,
 }
 
-// What was counted over the tokens taken: paths, names with repeats, brackets that opened, and the brackets and braces still open.
-#[derive(Clone, Copy)]
-struct Counts {
-    paths: usize,
-    occurrences: usize,
-    brackets: usize,
-    depth: usize,
-    braces: usize,
-}
-
-// A text being read: the token that follows, what was counted, and which names the path has so far.
+// A text being read: the tables that hold the tokens taken and their names, what follows them, and what was counted over them.
+// The tokens taken are the text's first ones and keep the rules; the text is short enough, and no table will be full.
 #[derive(Drop)]
-struct Reading<'a> {
+struct Reading<'a, 't, 'p, 'n, 'q> {
     text: &'a [u8],
     source: TokenReader<'a>,
-    ahead: Option<Token>,
+    tokens: &'t mut Table<'p, Token>,
+    names: &'n mut Table<'q, Name>,
+    ahead: Result<Option<Token>, BytesFault>,
     counts: Counts,
-    own: [bool; 64],
+    ghost short: { length text.now ≤ 16384 },
+    ghost token_places: { 1088 ≤ length (all_places tokens.now) },
+    ghost name_places: { 64 ≤ length (all_places names.now) },
+    ghost one_text: { bytes source ≡ text.now },
+    ghost follows: { Follows text.now (contents tokens.now) source.place ahead } by { Follows-prop text.now (contents tokens.now) source.place ahead },
+    ghost kept: { Kept (terminals text.now (contents tokens.now)) },
+    ghost listed: { contents names.now ≡ firsts text.now (contents tokens.now) },
+    ghost counted: { Counted counts (terminals text.now (contents tokens.now)) },
 }

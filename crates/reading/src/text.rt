@@ -1,9 +1,9 @@
-ghost use Rattle.std.specs.Prelude.{◌≡◌, ◌<◌, [], length};
-ghost use Rattle.table.specs.Contents.{contents, all_places};
-ghost use Rattle.reading.specs.Outcome.{Answered, RestSame, Measured};
-ghost use Rattle.reading.specs.State.{Unread, Begun};
+ghost use Rattle.std.specs.Prelude.{◌≡◌, ◌≤◌, [], length};
+ghost use Rattle.table.specs.Contents.{contents, all_places, RestSame, RestKept};
+ghost use Rattle.reading.specs.Outcome.{Answered, Enough, Measured, Judged};
 
-use super::{Counts, GrammarFault, Read, ReadFault, Reading};
+use super::counting::Counts;
+use super::{GrammarFault, Read, ReadFault, Reading};
 use table::Table;
 use tokens::{Name, Token, TokenReader, check_length};
 
@@ -25,41 +25,55 @@ fn empty(tokens: &mut Table<Token>, names: &mut Table<Name>)
     names.clear();
 }
 
-impl<'a> Reading<'a> {
-    // A reading before the first token of a text.
-    fn new(text: &'a [u8]) -> Reading<'a>
-        ensures unread { Unread text.now result }
-    {
-        Reading {
-            text,
-            source: TokenReader::new(text),
-            ahead: None,
-            counts: Counts::new(),
-            own: [false; 64],
-        }
-    }
-
-    // Checks the length of the text and reads its first token.
-    fn begin(&mut self) -> Result<(), GrammarFault>
-        requires { Unread self.old.text.now self.old }
-        ensures begun { Begun self.old.text.now self.new result }
-    {
-        check_length(self.text)?;
-        self.look()
-    }
-
+impl Reading<'_, '_, '_, '_, '_> {
     // What was counted of a text whose names are all noted.
-    fn counted(&self, names: &Table<Name>) -> Read
+    fn counted(&self) -> Read
         ensures paths { result.paths ≡ self.now.counts.paths }
-        ensures names { result.names ≡ length (contents names.now) }
+        ensures names { result.names ≡ length (contents self.now.names.now) }
         ensures occurrences { result.occurrences ≡ self.now.counts.occurrences }
     {
         Read {
             paths: self.counts.paths,
-            names: names.count(),
+            names: self.names.count(),
             occurrences: self.counts.occurrences,
         }
     }
+}
+
+// Whether a text is short enough to be read.
+fn check(text: &[u8]) -> Result<(), GrammarFault>
+    ensures judged { Judged (length text.now) result }
+{
+    check_length(text)?;
+    Ok(())
+}
+
+// Reads a text that is short enough into empty tables, or tells its first fault.
+fn read_short(
+    text: &[u8],
+    tokens: &mut Table<Token>,
+    names: &mut Table<Name>,
+) -> Result<Read, ReadFault>
+    requires short { length text.now ≤ 16384 }
+    requires enough { Enough tokens.old names.old }
+    requires no_tokens { contents tokens.old ≡ [] }
+    requires no_names { contents names.old ≡ [] }
+    ensures answered { Answered text.now tokens.old names.old tokens.new names.new result }
+    ensures tokens_kept { RestKept tokens.old tokens.new }
+    ensures names_kept { RestKept names.old names.new }
+{
+    let mut source = TokenReader::new(text);
+    let ahead = source.next_token();
+    let mut reading = Reading {
+        text,
+        source,
+        tokens,
+        names,
+        ahead,
+        counts: Counts::new(),
+    };
+    reading.paths()?;
+    Ok(reading.counted())
 }
 
 // Reads a text: fills the tables with its tokens and the first occurrences of its names, or tells its first fault.
@@ -76,10 +90,8 @@ pub fn read(
         return Err(ReadFault::TooFewPlaces);
     }
     empty(tokens, names);
-    let mut reading = Reading::new(text);
-    reading.begin()?;
-    reading.paths(tokens, names)?;
-    Ok(reading.counted(names))
+    check(text)?;
+    read_short(text, tokens, names)
 }
 
 impl Read {

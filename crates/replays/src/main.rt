@@ -1,16 +1,15 @@
 // Replays two lists of calls with the room by rank and with the room by age, and prints each answer.
 #![tactic(auto)]
 
-use doors::{Door, Occurrence};
+use doors::Occurrence;
 use rooms::waiting::Room;
 use rooms::{AgeRoom, RankRoom};
 use run::answer::{Begun, LetIn};
 use run::call::{Answer, Call};
-use run::fault::RunFault;
 use run::replay::replay;
 use std::io;
 use table::Table;
-use tokens::{Kind, Name, Token};
+use tokens::{Name, Token};
 
 fn show(rt: &HostRuntime, answer: Answer) -> io::Result<()> {
     match answer {
@@ -18,42 +17,21 @@ fn show(rt: &HostRuntime, answer: Answer) -> io::Result<()> {
         Answer::Begin(Ok(Begun::Waits(ticket))) => println!(rt; "waits {ticket}"),
         Answer::End(Ok(count)) => println!(rt; "out, {count} let in"),
         Answer::Withdraw(Ok(operation)) => println!(rt; "gone, operation {operation}"),
-        Answer::Begin(Err(fault)) => refused(rt, fault),
-        Answer::End(Err(fault)) => refused(rt, fault),
-        Answer::Withdraw(Err(fault)) => refused(rt, fault),
+        Answer::Begin(Err(fault)) | Answer::End(Err(fault)) | Answer::Withdraw(Err(fault)) => {
+            println!(rt; "refused {}", fault.number())
+        }
     }
 }
 
-fn refused(rt: &HostRuntime, fault: RunFault) -> io::Result<()> {
-    let number = fault.number();
-    println!(rt; "refused {number}")
-}
-
 fn replayed<R: Room + Drop>(rt: &HostRuntime, text: &[u8], calls: &[Call; 10]) -> io::Result<()> {
-    let mut tokens = [Token {
-        kind: Kind::End,
-        place: 0,
-        len: 0,
-    }; 1_088];
-    let mut names = [Name { place: 0, len: 0 }; 64];
-    let door = Door {
-        semaphore: 0,
-        counter: None,
-    };
-    let mut occurrences = [Occurrence {
-        path: 0,
-        operation: 0,
-        left: door,
-        right: door,
-    }; 256];
+    let mut tokens = [Token::default(); 1_088];
+    let mut names = [Name::default(); 64];
+    let mut occurrences = [Occurrence::default(); 256];
     let mut tokens = Table::new(&mut tokens);
     let mut names = Table::new(&mut names);
     let mut occurrences = Table::new(&mut occurrences);
     let mut answers = [Answer::End(Ok(0)); 10];
-    let mut list = [LetIn {
-        ticket: 0,
-        operation: 0,
-    }; 256];
+    let mut list = [LetIn::default(); 256];
     match replay::<R>(
         text,
         &mut tokens,
@@ -68,17 +46,12 @@ fn replayed<R: Room + Drop>(rt: &HostRuntime, text: &[u8], calls: &[Call; 10]) -
                 show(rt, answer)?;
             }
             for one in &list[..3] {
-                let ticket = one.ticket;
-                println!(rt; "let in: {ticket}")?;
+                println!(rt; "let in: {}", one.ticket)?;
             }
-            let running = closed.totals.running;
-            let waiting = closed.totals.waiting;
-            println!(rt; "running {running}, waiting {waiting}")
+            let totals = closed.totals;
+            println!(rt; "running {}, waiting {}", totals.running, totals.waiting)
         }
-        Err(fault) => {
-            let number = fault.number();
-            println!(rt; "text refused {number}")
-        }
+        Err(fault) => println!(rt; "text refused {}", fault.number()),
     }
 }
 

@@ -1,8 +1,8 @@
 -- What the calls of a waiting room say of its set of entries.
-use Rattle.std.specs.Prelude.{◌≡◌, ℕ, ◌+◌, ◌<◌, Bool, false, ◌⊎◌, ◌↔◌, List, length, get_or, Some, None, Option, ◌≢◌, slice_index_or}
+use Rattle.std.specs.Prelude.{◌≡◌, ℕ, ◌+◌, ◌<◌, Bool, false, ◌⊎◌, ◌↔◌, List, length, Some, None, Ok, Err, Option, Result, ◌≢◌, slice_index_or, AllPairs}
 use Rattle.rooms.specs.declared.entry.Entry.{Entry}
-use Rattle.rooms.specs.declared.entry.Put.{Put}
-use Rattle.rooms.specs.declared.entry.Put.TheVariants.{Added, Known, Full}
+use Rattle.rooms.specs.declared.entry.PutFault.{PutFault}
+use Rattle.rooms.specs.declared.entry.PutFault.TheVariants.{Known, Full}
 
 -- what a read past the end of a list counts as
 abbrev pub none : Entry
@@ -16,13 +16,9 @@ In x xs = (k : ℕ) × (k < length xs) × (slice_index_or xs k x ≡ x)
 abbrev pub Ticketed : ℕ → List Entry → Type 0
 Ticketed t xs = (x : Entry) × In x xs × (x.ticket ≡ t)
 
--- no two of the first n of xs have the same ticket
-abbrev pub Apart : ℕ → List Entry → Type 0
-Apart n xs = (i j : ℕ) → (i < j) × (j < n) × ((get_or xs i none).ticket ≡ (get_or xs j none).ticket) → ⊥
-
 -- no ticket stands twice in xs
 abbrev pub NoTwice : List Entry → Type 0
-NoTwice xs = Apart (length xs) xs
+NoTwice xs = AllPairs (λ x y. x.ticket ≢ y.ticket) xs
 
 -- the operation n is one of those allowed by a table
 abbrev pub allows : List Bool → ℕ → Bool
@@ -40,10 +36,10 @@ pub record Left (x : Entry) (old new : List Entry) : Type 0 where
   pub fewer : length new + 1 ≡ length old
 
 -- what the answer to a put of e says of the entries before and after it
-abbrev pub PutSays : ℕ → Entry → List Entry → List Entry → Put → Type 0
-PutSays places e old new Added = (Ticketed e.ticket old → ⊥) × (length old < places) × Joined e old new
-PutSays places e old new Known = Ticketed e.ticket old × (new ≡ old)
-PutSays places e old new Full = (Ticketed e.ticket old → ⊥) × (length old ≡ places) × (new ≡ old)
+abbrev pub PutSays : ℕ → Entry → List Entry → List Entry → Result (Unit {0}) PutFault → Type 0
+PutSays places e old new (Ok u) = (Ticketed e.ticket old → ⊥) × (length old < places) × Joined e old new
+PutSays places e old new (Err Known) = Ticketed e.ticket old × (new ≡ old)
+PutSays places e old new (Err Full) = (Ticketed e.ticket old → ⊥) × (length old ≡ places) × (new ≡ old)
 
 -- what the answer to a take says, for the allowed operations and a rule of choice
 abbrev pub TakeSays : (ℕ → Bool) → (List Entry → (ℕ → Bool) → Entry → Type 0) → List Entry → List Entry → Option Entry → Type 0

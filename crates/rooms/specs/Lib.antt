@@ -1,7 +1,6 @@
 pub mod Entries
+pub mod Rule
 pub mod Exact
 pub mod First
-pub mod Taken
 pub mod Sets
 pub mod Best
-pub mod Laws

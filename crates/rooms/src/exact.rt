@@ -5,10 +5,8 @@ ghost use Rattle.rooms.specs.Exact.{PutExact, TakeExact, DropExact};
 use crate::waiting::Room;
 
 // Every room answers known, full, added and none exactly when it should.
-pub fn answers_are_exact<R: Room>() -> u8
-    ensures put { PutExact R.Room.places }
-    ensures take { (m : ℕ) → TakeExact (R.Room.chooses m) }
+pub fn answers_are_exact<R: Room>()
+    ensures put { PutExact R.places }
+    ensures take { (m : ℕ) → TakeExact (R.rule.chooses m) }
     ensures drop { DropExact }
-{
-    0
-}
+{}

@@ -1,121 +1,93 @@
 // The room over an order of entries: of the entries whose operation is allowed the first in the order is chosen.
-ghost use Rattle.std.specs.Prelude.{◌≡◌, ◌+◌, ◌<◌, ◌≤◌, false, length};
-ghost use Rattle.rooms.specs.Entries.{Ticketed, Left, Joined, Apart, allows};
-ghost use Rattle.rooms.specs.First.{First, Best};
-ghost use Rattle.rooms.specs.Taken.{taken, at, Found, Chosen};
-ghost use Rattle.rooms.specs.Laws.{one_to_256, taken_within, within_places, first_sound};
-ghost use Rattle.rooms.specs.Sets.{no_twice, one_entry};
+ghost use Rattle.std.specs.Prelude.{◌≡◌, ◌<◌, ◌≤◌, length, slice_index_or, MatchOption, IfSome, true};
+ghost use Rattle.std.proofs.Common.{rules};
+ghost use Rattle.rooms.specs.Entries.{NoTwice, Left, allows, none};
+ghost use Rattle.rooms.specs.First.{First, Best, Chosen};
+ghost use Rattle.rooms.specs.Sets.{Found, one_entry};
 ghost use Rattle.rooms.specs.Best.{first_some};
 
-use crate::entry::{Entry, Put};
+use crate::entry::{Entry, PutFault};
 use crate::order::Order;
-use crate::places::Places;
 use crate::waiting::Room;
+use arrayvec::ArrayVec;
 
-// An order, and 256 places in which no ticket stands twice.
+// An order, and at most 256 entries, of which no two have one ticket.
 #[derive(Drop)]
 pub struct Kept<O> {
     order: O,
-    places: Places,
-    ghost long: { length places.items ≡ 256 },
-    ghost few: { places.used ≤ 256 },
-    ghost distinct: { Apart places.used places.items },
+    entries: ArrayVec<Entry, 256>,
+    ghost few: { length entries.items ≤ 256 },
+    ghost distinct: { NoTwice entries.items },
 }
 
 // Whether an operation is allowed.
 fn is_allowed(allowed: &[bool; 64], operation: u8) -> bool
-    ensures below { operation < 64 → result ≡ allows allowed.now operation }
-    ensures beyond { 64 ≤ operation → result ≡ false }
+    ensures { result ≡ allows allowed.now operation }
 {
-    let n = operation as usize;
-    n < 64 && allowed[n]
+    allowed
+        .get(usize::from(operation))
+        .copied()
+        .unwrap_or(false)
 }
 
 impl<O: Order> Kept<O> {
     // The place of a ticket.
     fn find(&self, ticket: u32) -> Option<usize>
-        ensures says { Found self.now.places ticket result }
+        ensures { Found self.now.entries.items ticket result }
     {
-        self.places.find(ticket)
-    }
-
-    // Adds an entry whose ticket is new.
-    fn add(&mut self, e: Entry)
-        requires { (Ticketed e.ticket (taken self.old.places) → ⊥) × (self.old.places.used < 256) }
-        ensures joined { Joined e (taken self.old.places) (taken self.new.places) }
-        ensures order { self.new.order ≡ self.old.order }
-    {
-        self.places.push(e);
+        self.entries.iter().position(|e| e.ticket == ticket)
     }
 
     // Removes the entry at a place, and answers it.
+    #[tactic(auto, using(crate::specs::Sets::no_twice_left, crate::specs::Sets::left))]
     fn remove(&mut self, i: usize) -> Entry
-        requires { i < self.old.places.used }
-        ensures value { result ≡ at self.old.places i }
-        ensures left { Left result (taken self.old.places) (taken self.new.places) }
+        requires { i < length self.old.entries.items }
+        ensures value { result ≡ slice_index_or self.old.entries.items i result }
+        ensures left { Left result self.old.entries.items self.new.entries.items }
         ensures order { self.new.order ≡ self.old.order }
     {
-        self.places.remove(i)
+        self.entries.swap_remove(i)
     }
 
-    // The place of the first allowed entry of the first i + 1, where best is that of the first i.
-    fn better(&self, allowed: &[bool; 64], best: Option<usize>, i: usize) -> Option<usize>
-        requires { (i < self.now.places.used) × (Best (O.first (O.memory self.now.order)) self.now.places.items (allows allowed.now) i best) }
-        ensures says { Best (O.first (O.memory self.now.order)) self.now.places.items (allows allowed.now) (i + 1) result }
+    // Whether an entry goes before the best so far, if there is one.
+    fn goes_before(&self, e: Entry, best: Option<usize>) -> bool
+        requires { IfSome best (λ b. b < length self.now.entries.items) }
+        ensures { MatchOption best (result ≡ true) (λ b. result ≡ O.first (O.memory self.now.order) e (slice_index_or self.now.entries.items b none)) }
     {
-        let e = self.places.items[i];
-        if !is_allowed(allowed, e.operation) {
-            return best;
-        }
-        let Some(b) = best else {
-            return Some(i);
-        };
-        if self.order.goes_first(e, self.places.items[b]) {
-            Some(i)
-        } else {
-            Some(b)
-        }
+        best.is_none_or(|b| self.order.goes_first(e, self.entries[b]))
     }
 
-    // The place of the first allowed entry, by place.
+    // The place of the first allowed entry.
+    #[tactic(auto, using(crate::specs::Best::chosen))]
     fn best(&self, allowed: &[bool; 64]) -> Option<usize>
-        ensures says { Best (O.first (O.memory self.now.order)) self.now.places.items (allows allowed.now) self.now.places.used result }
+        ensures { Chosen (O.first (O.memory self.now.order)) self.now.entries.items (allows allowed.now) result }
     {
         let mut best = None;
-        for i in 0..self.places.used {
-            best = self.better(allowed, best, i);
+        for (i, e) in self.entries.iter().enumerate() {
+            if is_allowed(allowed, e.operation) && self.goes_before(*e, best) {
+                best = Some(i);
+            }
         }
         best
-    }
-
-    // The place of the entry that the rule of choice names.
-    fn choice(&self, allowed: &[bool; 64]) -> Option<usize>
-        ensures says { Chosen (O.first (O.memory self.now.order)) self.now.places (allows allowed.now) result }
-    {
-        self.best(allowed)
     }
 }
 
 impl<O: Order> Room for Kept<O> {
-    ghost entries = { λ s. taken s.places };
+    ghost entries = { λ s. s.entries.items };
 
     ghost places = { 256 };
 
     ghost memory = { λ s. O.Order.memory s.order };
 
-    ghost start = { O.Order.start };
+    ghost rule = { record { start = O.Order.start; after = O.Order.after; chooses = λ m. First (O.Order.first m) } };
 
-    ghost after = { O.Order.after };
+    ghost bounded = { Prim.search rules };
 
-    ghost chooses = { λ m. First (O.Order.first m) };
+    ghost within = { λ s. s.few };
 
-    ghost bounded = { one_to_256 };
+    ghost distinct = { λ s. s.distinct };
 
-    ghost within = { λ s. taken_within s.places.items s.places.used s.long s.few };
-
-    ghost distinct = { λ s. no_twice s.places.items s.places.used (within_places s.places.items s.places.used s.long s.few) s.distinct };
-
-    ghost sound = { λ m. first_sound (O.Order.first m) };
+    ghost sound = { λ m l a x o. (o.among, o.may) };
 
     ghost complete = { λ m l a. first_some (O.Order.first m) (O.Order.total m) (O.Order.transitive m) l a };
 
@@ -126,24 +98,19 @@ impl<O: Order> Room for Kept<O> {
     fn new() -> Kept<O> {
         Kept {
             order: O::new(),
-            places: Places::new(),
+            entries: ArrayVec::new(),
         }
     }
 
-    fn put(&mut self, e: Entry) -> Put {
-        if let Some(_) = self.find(e.ticket) {
-            return Put::Known;
+    fn put(&mut self, e: Entry) -> Result<(), PutFault> {
+        if self.find(e.ticket).is_some() {
+            return Err(PutFault::Known);
         }
-        if self.places.is_full() {
-            return Put::Full;
-        }
-        self.add(e);
-        Put::Added
+        self.entries.try_push(e).map_err(|_| PutFault::Full)
     }
 
     fn take(&mut self, allowed: &[bool; 64]) -> Option<Entry> {
-        let i = self.choice(allowed)?;
-        let e = self.remove(i);
+        let e = self.remove(self.best(allowed)?);
         self.order.chosen(e);
         Some(e)
     }
@@ -154,6 +121,6 @@ impl<O: Order> Room for Kept<O> {
     }
 
     fn count(&self) -> usize {
-        self.places.count()
+        self.entries.len()
     }
 }

@@ -6,7 +6,6 @@ pub mod exact;
 pub mod kept;
 pub mod order;
 pub mod orders;
-mod places;
 #[cfg(test)]
 mod tests;
 pub mod waiting;

@@ -5,14 +5,14 @@ ghost use Rattle.rooms.specs.declared.entry.Entry.{Entry};
 use crate::entry::Entry;
 
 pub trait Order: Sized {
-    // what is remembered of earlier choices
-    ghost memory: { Self → ℕ };
+    // what is remembered of earlier choices: nothing, if an order says no more
+    ghost memory: { Self → ℕ } = { λ _. 0 };
 
     // what is remembered at first
-    ghost start: { ℕ };
+    ghost start: { ℕ } = { 0 };
 
     // what is remembered after the choice of an entry
-    ghost after: { ℕ → Entry → ℕ };
+    ghost after: { ℕ → Entry → ℕ } = { λ _ _. 0 };
 
     // of two entries the first goes before the second, or has its ticket
     ghost first: { ℕ → Entry → Entry → Bool };

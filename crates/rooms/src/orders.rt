@@ -1,43 +1,30 @@
 // The orders by age and by rank, which remember nothing.
-ghost use Rattle.std.specs.Prelude.{◌≡◌};
 ghost use Rattle.rooms.specs.First.{by_age, by_rank};
-ghost use Rattle.rooms.specs.Laws.{by_age-total, by_age-transitive, by_age-strict, by_rank-total, by_rank-transitive, by_rank-strict};
+ghost use Rattle.std.proofs.Common.{rules};
 
 use crate::entry::Entry;
 use crate::order::Order;
-
-// Whether x has waited at least as long as y.
-fn is_older(x: Entry, y: Entry) -> bool
-    ensures says { result ≡ by_age x y }
-{
-    x.ticket <= y.ticket
-}
+use std::cmp::Reverse;
 
 // By age: the smaller ticket goes first.
 #[derive(Drop)]
 pub struct Age;
 
 impl Order for Age {
-    ghost memory = { λ _. 0 };
-
-    ghost start = { 0 };
-
-    ghost after = { λ _ _. 0 };
-
     ghost first = { λ _. by_age };
 
-    ghost total = { λ _. by_age-total };
+    ghost total = { λ _. Prim.search rules };
 
-    ghost transitive = { λ _. by_age-transitive };
+    ghost transitive = { λ _. Prim.search rules };
 
-    ghost strict = { λ _. by_age-strict };
+    ghost strict = { λ _. Prim.search rules };
 
     fn new() -> Age {
         Age
     }
 
     fn goes_first(&self, x: Entry, y: Entry) -> bool {
-        is_older(x, y)
+        x.ticket <= y.ticket
     }
 
     fn chosen(&mut self, _e: Entry) {}
@@ -48,30 +35,20 @@ impl Order for Age {
 pub struct Rank;
 
 impl Order for Rank {
-    ghost memory = { λ _. 0 };
-
-    ghost start = { 0 };
-
-    ghost after = { λ _ _. 0 };
-
     ghost first = { λ _. by_rank };
 
-    ghost total = { λ _. by_rank-total };
+    ghost total = { λ _. Prim.search rules };
 
-    ghost transitive = { λ _. by_rank-transitive };
+    ghost transitive = { λ _. Prim.search rules };
 
-    ghost strict = { λ _. by_rank-strict };
+    ghost strict = { λ _. Prim.search rules };
 
     fn new() -> Rank {
         Rank
     }
 
     fn goes_first(&self, x: Entry, y: Entry) -> bool {
-        if x.rank == y.rank {
-            is_older(x, y)
-        } else {
-            y.rank < x.rank
-        }
+        (Reverse(x.rank), x.ticket) <= (Reverse(y.rank), y.ticket)
     }
 
     fn chosen(&mut self, _e: Entry) {}

@@ -1,45 +1,34 @@
 // Rooms by age and by rank, on examples.
-use crate::entry::{Entry, Put};
+use crate::entry::{Entry, PutFault};
 use crate::order::Order;
 use crate::waiting::Room;
 use crate::{AgeRoom, RankRoom};
 
-fn word(p: Put) -> &'static str {
-    match p {
-        Put::Added => "added",
-        Put::Known => "known",
-        Put::Full => "full",
-    }
-}
-
-fn put<R: Room>(room: &mut R, ticket: u32, operation: u8, rank: u8) -> &'static str {
-    word(room.put(Entry {
+fn put<R: Room>(room: &mut R, ticket: u32, operation: u8, rank: u8) -> Result<(), PutFault> {
+    room.put(Entry {
         ticket,
         operation,
         rank,
-    }))
+    })
 }
 
 // The ticket that is taken, or 0.
 fn taken<R: Room>(room: &mut R, allowed: &[bool; 64]) -> u32 {
-    match room.take(allowed) {
-        Some(e) => e.ticket,
-        None => 0,
-    }
+    room.take(allowed).map_or(0, |e| e.ticket)
 }
 
 #[test]
 fn has_256_places(rt: HostRuntime) {
     let mut room = AgeRoom::new();
     for k in 0..256 {
-        assert_eq!(rt; put(&mut room, 256 - k, 63, 9), "added");
+        assert_eq!(rt; put(&mut room, 256 - k, 63, 9), Ok(()));
     }
     assert_eq!(rt; room.count(), 256);
-    assert_eq!(rt; put(&mut room, 257, 0, 0), "full");
-    assert_eq!(rt; put(&mut room, 7, 0, 0), "known");
+    assert_eq!(rt; put(&mut room, 257, 0, 0), Err(PutFault::Full));
+    assert_eq!(rt; put(&mut room, 7, 0, 0), Err(PutFault::Known));
     assert_eq!(rt; room.count(), 256);
     assert_eq!(rt; taken(&mut room, &[true; 64]), 1);
-    assert_eq!(rt; put(&mut room, 257, 0, 0), "added");
+    assert_eq!(rt; put(&mut room, 257, 0, 0), Ok(()));
 }
 
 #[test]
@@ -47,9 +36,9 @@ fn by_age(rt: HostRuntime) {
     let mut room = AgeRoom::new();
     let mut allowed = [false; 64];
     assert_eq!(rt; taken(&mut room, &allowed), 0);
-    assert_eq!(rt; put(&mut room, 8, 2, 9), "added");
-    assert_eq!(rt; put(&mut room, 3, 1, 0), "added");
-    assert_eq!(rt; put(&mut room, 5, 2, 5), "added");
+    assert_eq!(rt; put(&mut room, 8, 2, 9), Ok(()));
+    assert_eq!(rt; put(&mut room, 3, 1, 0), Ok(()));
+    assert_eq!(rt; put(&mut room, 5, 2, 5), Ok(()));
     assert_eq!(rt; taken(&mut room, &allowed), 0);
     allowed[2] = true;
     assert_eq!(rt; taken(&mut room, &allowed), 5);
@@ -62,11 +51,11 @@ fn by_age(rt: HostRuntime) {
 #[test]
 fn by_rank(rt: HostRuntime) {
     let mut room = RankRoom::new();
-    assert_eq!(rt; put(&mut room, 4, 0, 5), "added");
-    assert_eq!(rt; put(&mut room, 2, 0, 5), "added");
-    assert_eq!(rt; put(&mut room, 1, 0, 3), "added");
-    assert_eq!(rt; put(&mut room, 9, 63, 7), "added");
-    assert_eq!(rt; put(&mut room, 6, 200, 9), "added");
+    assert_eq!(rt; put(&mut room, 4, 0, 5), Ok(()));
+    assert_eq!(rt; put(&mut room, 2, 0, 5), Ok(()));
+    assert_eq!(rt; put(&mut room, 1, 0, 3), Ok(()));
+    assert_eq!(rt; put(&mut room, 9, 63, 7), Ok(()));
+    assert_eq!(rt; put(&mut room, 6, 200, 9), Ok(()));
     assert_eq!(rt; taken(&mut room, &[true; 64]), 9);
     assert_eq!(rt; taken(&mut room, &[true; 64]), 2);
     assert_eq!(rt; taken(&mut room, &[true; 64]), 4);

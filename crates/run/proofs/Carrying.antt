@@ -1,22 +1,21 @@
 -- One call after the other, from what each call says.
-use Rattle.std.proofs.Common.{◌≡◌, ℕ, ◌+◌, ◌-◌, ◌<◌, ◌≤◌, min, List, [], ◌∷◌, ◌++◌, length, get_or, take, drop, set, Ok, Err, Result, sym, refl, ap, ◌∙◌, subst, inl, inr, arith, take-add}
+use Rattle.std.proofs.Common.{◌≡◌, ℕ, ◌+◌, ◌-◌, ◌<◌, ◌≤◌, min, List, [], ◌∷◌, ◌++◌, length, get_or, take, drop, set, Ok, Err, sym, refl, ap, ◌∙◌, subst, inl, inr, arith, take-add}
 use borrow.Rule.Slice.PartMut.{put_mid, post_of}
-use Rattle.std.proofs.lemmas.List.{append_assoc, append-nil, drop_all, drop_at, drop-drop, drop_more, length-drop, length_push, length-take-le, set_at, take_all, take-append-drop, take_more}
+use Rattle.std.proofs.lemmas.List.{append_assoc, append-nil, drop_all, drop_at, drop-drop, drop_more, length-append, length-drop, length_push, length-take-le, set_at, take_all, take-append-drop, take_more}
+use Rattle.std.proofs.lemmas.Slice.{take-put_mid_below}
 use Rattle.std.proofs.lemmas.Bool.{cases_lt}
 use Rattle.paths.specs.Grammar.{Text}
-use Rattle.run.specs.declared.answer.Begun.{Begun}
+use Rattle.rooms.specs.Rule.{Rule}
 use Rattle.run.specs.declared.answer.Begun.TheVariants.{In as Goes, Waits}
 use Rattle.run.specs.declared.answer.LetIn.{LetIn}
 use Rattle.run.specs.declared.call.Answer.{Answer}
-use Rattle.run.specs.declared.call.Answer.TheVariants as answer
 use Rattle.run.specs.declared.call.Call.{Call}
-use Rattle.run.specs.declared.call.Call.TheVariants as call
 use Rattle.run.specs.declared.fault.RunFault.{RunFault}
 use Rattle.run.specs.declared.fault.RunFault.TheVariants.{UnknownOperation, RankTooHigh, TicketsSpent, RoomFull, NotRunning, NotWaiting, ListTooShort}
 use Rattle.run.specs.Carried.{Carried}
 use Rattle.run.specs.Law.{call_of, answer_of, front_of, calls, answers, fronts, LentTo, Lent, InExactly, Lawful, Told, Recorded}
-use Rattle.run.specs.Memory.{View, Reached, Carries}
-use Rattle.run.specs.Records.{Record, begin, end, withdraw, Rule, history}
+use Rattle.run.specs.Memory.{View, Reached}
+use Rattle.run.specs.Records.{Record, begin, end, withdraw, history}
 use Rattle.run.specs.Says.{BeginRefused, Says, Joins, Unstopped}
 
 -- ---- one call
@@ -29,21 +28,14 @@ module _ (l sub : List LetIn) (u : ℕ) (fits : u ≤ length l) (same : length s
       ∙ ap (λ z. sub ++ z) (drop_all (length l - u) (drop u l) (let e = length-drop u l in omega arith))
       ∙ append-nil sub
 
+  pub part_long : length (put_mid u (length l - u) l sub) ≡ length l
+  part_long =
+      let then = put_mid u (length l - u) l sub in
+      ap length (sym (take-append-drop u then)) ∙ length-append (take u then) (drop u then)
+      ∙ omega (arith, ap length (take-put_mid_below u (length l - u) l sub u (omega arith) fits), ap length part_tail, length-take-le u l fits)
+
   pub part_drop : (n : ℕ) → drop n sub ≡ drop n (drop u l) → drop (u + n) (put_mid u (length l - u) l sub) ≡ drop (u + n) l
   part_drop n e = sym (drop-drop n u (put_mid u (length l - u) l sub)) ∙ ap (drop n) part_tail ∙ e ∙ drop-drop n u l
-
-nothing : (u : ℕ) (l : List LetIn) → [] ≡ take (u - u) l
-nothing u l = let z : 0 ≡ u - u = omega arith in ap (λ n. take n l) z
-
-module _ (places : ℕ) (rule : Rule) (v w : View) (c : Call) where
-  pub carried_begin : (a k p u : ℕ) (r : Result Begun RunFault) (l : List LetIn) → c ≡ call.Begin a k → Carries places rule v w (begin a k r) → Carried places rule v w c p (answer.Begin r) (take (u - u) l)
-  carried_begin a k p u r l is says = record { rec = begin a k r; call = sym is; answer = refl; front = nothing u l; lent = tt; carries = says }
-
-  pub carried_withdraw : (x p u : ℕ) (r : Result ℕ RunFault) (l : List LetIn) → c ≡ call.Withdraw x → Carries places rule v w (withdraw x r) → Carried places rule v w c p (answer.Withdraw r) (take (u - u) l)
-  carried_withdraw x p u r l is says = record { rec = withdraw x r; call = sym is; answer = refl; front = nothing u l; lent = tt; carries = says }
-
-  pub carried_end : (a q p : ℕ) (r : Result ℕ RunFault) (ks ls : List LetIn) → c ≡ call.End a → q ≡ p → ks ≡ ls → Carries places rule v w (end a q ks r) → Carried places rule v w c p (answer.End r) ls
-  carried_end a q p r ks ls is e f says = record { rec = end a q ks r; call = sym is; answer = refl; front = f; lent = e; carries = says }
 
 -- ---- every call is lawful
 
@@ -64,13 +56,13 @@ in_exactly t places rule rs (begin a k (Err f)) s = λ x. (λ i. absurd i, λ j.
 in_exactly t places rule rs (end a p ls r) s = tt
 in_exactly t places rule rs (withdraw u r) s = tt
 
-pub lawful : (t : Text) (places : ℕ) (rule : Rule) (w : View) (rs : List Record) (r : Record) → Says t places rule rs r × Reached t rule w (r ∷ rs) → Lawful t places rule rs r
+pub lawful : {R : Type 0} (t : Text) (places : ℕ) (rule : Rule) (w : View R) (rs : List Record) (r : Record) → Says t places rule rs r × Reached t rule w (r ∷ rs) → Lawful t places rule rs r
 lawful t places rule w rs r (says, (m, calm)) = record { says = says; lets_in = in_exactly t places rule rs r says; fits = m.fits; settled = calm }
 
 -- ---- a list of calls
 
 -- the run after i calls, with the first u places of the list used
-pub record Going (t : Text) (places : ℕ) (rule : Rule) (cs : List Call) (old new : List Answer) (before after : List LetIn) (v : View) (i u : ℕ) : Type 0 where
+pub record Going {R : Type 0} (t : Text) (places : ℕ) (rule : Rule) (cs : List Call) (old new : List Answer) (before after : List LetIn) (v : View R) (i u : ℕ) : Type 0 where
   pub records : List Record
   pub of_calls : calls records ≡ take i cs
   pub of_answers : new ≡ answers records ++ drop i old
@@ -84,39 +76,41 @@ pub record Going (t : Text) (places : ℕ) (rule : Rule) (cs : List Call) (old n
   pub reached : Reached t rule v records
 
 module _ (t : Text) (places : ℕ) (rule : Rule) (cs : List Call) (old : List Answer) (before : List LetIn) where
-  pub going_start : (v : View) → Reached t rule v [] → Going t places rule cs old old before before v 0 0
+  pub going_start : {R : Type 0} (v : View R) → Reached t rule v [] → Going t places rule cs old old before before v 0 0
   going_start v s = record { records = []; of_calls = refl; of_answers = refl; count = refl; of_list = refl; filled = refl; long = refl; tail = refl; lent = tt; told = tt; reached = s }
 
-  pub going_more : (new : List Answer) (now then : List LetIn) (v w : View) (i u f : ℕ) (d : Call) (r : Answer) → i < length cs → i < length old →
-      Going t places rule cs old new before now v i u → u ≤ f → f ≤ length now → length then ≡ length now →
-      Carried places rule v w (get_or cs i d) (length now - u) r (take (f - u) (drop u then)) →
-      take u then ≡ take u now → drop f then ≡ drop f now →
-      Going t places rule cs old (set new i r) before then w (i + 1) f
-  going_more new now then v w i u f d r il ol go uf fl same one front tail =
+  -- one more call, with what the first u places of the list leave
+  pub going_more : {R : Type 0} (new : List Answer) (now sub : List LetIn) (v w : View R) (i u n p : ℕ) (c : Call) (r : Answer) → i < length cs → c ≡ get_or cs i c → i < length old →
+      Going t places rule cs old new before now v i u → u ≤ length now → length sub ≡ length now - u → n ≤ length sub → p ≡ length now - u →
+      Carried places rule v w c p r (take n sub) → drop n sub ≡ drop n (drop u now) →
+      Going t places rule cs old (set new i r) before (put_mid u (length now - u) now sub) w (i + 1) (u + n)
+  going_more new now sub v w i u n p c r il is ol go within same few lent one rest =
       let rec = one.rec in
       let rs = go.records in
       let said = one.carries t rs go.reached in
-      let split : u + (f - u) ≡ f = omega arith in
-      let all : take f then ≡ fronts rs ++ front_of rec =
-      ap (λ k. take k then) (sym split) ∙ take-add u (f - u) then ∙ ap (λ z. z ++ take (f - u) (drop u then)) (front ∙ go.of_list) ∙ ap (λ z. fronts rs ++ z) (sym one.front) in
+      let then = put_mid u (length now - u) now sub in
+      let all : take (u + n) then ≡ fronts rs ++ front_of rec =
+      take-add u n then ∙ ap (λ z. z ++ take n (drop u then)) (take-put_mid_below u (length now - u) now sub u (omega arith) within ∙ go.of_list)
+      ∙ ap (λ z. fronts rs ++ take n z) (part_tail now sub u within same) ∙ ap (λ z. fronts rs ++ z) (sym one.front) in
       let gl = go.long in
       let gf = go.filled in
+      let tl : length then ≡ length now = part_long now sub u within same in
       record {
         records = rec ∷ rs;
-        of_calls = ap (λ z. z ++ call_of rec ∷ []) go.of_calls ∙ ap (λ z. take i cs ++ z ∷ []) one.call ∙ sym (take_more cs i d il);
+        of_calls = ap (λ z. z ++ call_of rec ∷ []) go.of_calls ∙ ap (λ z. take i cs ++ z ∷ []) (one.call ∙ is) ∙ sym (take_more cs i c il);
         of_answers = ap (λ z. set z i r) (go.of_answers ∙ ap (λ z. answers rs ++ z) (drop_more old i r ol)) ∙ set_at (answers rs) (get_or old i r) (drop (i + 1) old) r i go.count
             ∙ sym (append_assoc (answers rs) (r ∷ []) (drop (i + 1) old)) ∙ ap (λ z. (answers rs ++ z ∷ []) ++ drop (i + 1) old) (sym one.answer);
         count = length_push (answers rs) (answer_of rec) ∙ ap (λ k. k + 1) go.count;
         of_list = all;
-        filled = sym (ap length all) ∙ length-take-le f then (omega arith);
-        long = same ∙ go.long;
-        tail = tail ∙ ap (λ k. drop k now) (sym split) ∙ sym (drop-drop (f - u) u now) ∙ ap (drop (f - u)) go.tail ∙ drop-drop (f - u) u before ∙ ap (λ k. drop k before) split;
-        lent = (subst (λ n. LentTo n rec) (let e : length now - u ≡ length before - length (fronts rs) = omega arith in e) one.lent, go.lent);
+        filled = sym (ap length all) ∙ length-take-le (u + n) then (omega arith);
+        long = tl ∙ go.long;
+        tail = part_drop now sub u within same n rest ∙ sym (drop-drop n u now) ∙ ap (drop n) go.tail ∙ drop-drop n u before;
+        lent = (subst (λ k. LentTo k rec) (let e : p ≡ length before - length (fronts rs) = omega arith in e) one.lent, go.lent);
         told = (lawful t places rule w rs rec said, go.told);
         reached = said.1;
       }
 
-  pub going_all : (new : List Answer) (now : List LetIn) (v : View) (i u : ℕ) → i ≡ min (length cs) (length old) → Going t places rule cs old new before now v i u →
+  pub going_all : {R : Type 0} (new : List Answer) (now : List LetIn) (v : View R) (i u : ℕ) → i ≡ min (length cs) (length old) → Going t places rule cs old new before now v i u →
       (rs : List Record) × Recorded t places rule cs old new before now rs × Reached t rule v rs
   going_all new now v i u e go = (
     go.records,

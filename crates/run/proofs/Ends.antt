@@ -5,9 +5,10 @@ use Rattle.paths.specs.Grammar.{Text}
 use Rattle.paths.specs.Words.{⊕, ⊖, History}
 use Rattle.rooms.specs.declared.entry.Entry.{Entry}
 use Rattle.rooms.specs.Entries.{In}
+use Rattle.rooms.specs.Rule.{Rule}
 use Rattle.run.specs.declared.answer.LetIn.{LetIn}
 use Rattle.run.specs.Memory.{View, Account, Matches, account, Distinct, with_end, with_chosen, GoneOut, Admitted, Nobody, Carries}
-use Rattle.run.specs.Records.{Record, end, Rule, waiting, history, remembered, without_all, letting_in, remembered_chosen}
+use Rattle.run.specs.Records.{Record, end, waiting, history, remembered, without_all, letting_in, remembered_chosen}
 use Rattle.run.specs.Says.{Choice, Settled, nobody}
 use Rattle.run.proofs.Sets.{entry_found, in_without_all, without_all_push, remembered_push}
 use Rattle.run.proofs.Steps.{Blind, Sound, step_end, step_chosen, chosen, nobody_joins}
@@ -44,13 +45,13 @@ abbrev pub SoFar : Text → Rule → List Record → ℕ → ℕ → ℕ → Lis
 SoFar t rule rs a p n l = (k : ℕ) → k < n → Choice t rule (end a p (take k l) (Ok k) ∷ rs) (get_or l k nobody)
 
 -- what an end from the memory v has come to with the memory w and the first n of the list
-abbrev pub Ending : Rule → View → View → ℕ → ℕ → ℕ → List LetIn → Type 0
+abbrev pub Ending : {R : Type 0} → Rule → View R → View R → ℕ → ℕ → ℕ → List LetIn → Type 0
 Ending rule v w a p n l =
     (t : Text) (rs : List Record) → Matches t v (account rule (end a p [] (Ok 0) ∷ rs)) → Matches t w (account rule (end a p (take n l) (Ok n) ∷ rs)) × SoFar t rule rs a p n l
 
-module _ (rule : Rule) (blind : Blind rule) (sound : Sound rule) (a p : ℕ) where
-  more : (u v w : View) (n : ℕ) (l : List LetIn) (e : Entry) → n < length l → Admitted rule v w e → Ending rule u v a p n l → Ending rule u w a p (n + 1) (set l n (listed e))
-  more u v w n l e within g going t rs s =
+module _ {R : Type 0} (rule : Rule) (blind : Blind rule) (sound : Sound rule) (u : View R) (a p : ℕ) where
+  more : (v w : View R) (n : ℕ) (l : List LetIn) (e : Entry) → n < length l → Admitted rule v w e → Ending rule u v a p n l → Ending rule u w a p (n + 1) (set l n (listed e))
+  more v w n l e within g going t rs s =
       let x = listed e in
       let (m, far) = going t rs s in
       let rs' = end a p (take n l) (Ok n) ∷ rs in
@@ -67,18 +68,18 @@ module _ (rule : Rule) (blind : Blind rule) (sound : Sound rule) (a p : ℕ) whe
       )
 
   -- one more is let in, and put into the list
-  pub turn : (u v w : View) (n : ℕ) (l k : List LetIn) (e : Entry) → n < length l → Admitted rule v w e → k ≡ set l n (listed e) → Ending rule u v a p n l → Ending rule u w a p (n + 1) k
-  turn u v w n l k e within g is going = subst (Ending rule u w a p (n + 1)) (sym is) (more u v w n l e within g going)
+  pub turn : (v w : View R) (n : ℕ) (l k : List LetIn) (e : Entry) → n < length l → Admitted rule v w e → k ≡ set l n (listed e) → Ending rule u v a p n l → Ending rule u w a p (n + 1) k
+  turn v w n l k e within g is going = subst (Ending rule u w a p (n + 1)) (sym is) (more v w n l e within g going)
 
 -- the rest of the list stays
 pub rest_turn : (l k old : List LetIn) (n : ℕ) (x : LetIn) → k ≡ set l n x → drop n l ≡ drop n old → drop (n + 1) k ≡ drop (n + 1) old
 rest_turn l k old n x is e = ap (drop (n + 1)) is ∙ drop-set-lt (n + 1) l n x (omega arith) ∙ sym (drop-drop 1 n l) ∙ ap (drop 1) e ∙ drop-drop 1 n old
 
 -- what an end has answered once none of those who wait could join
-pub ends : (places : ℕ) (rule : Rule) (v u w x : View) (a p n : ℕ) (l : List LetIn) → (a < v.operations) × (0 < get_or v.running a 0) × (length v.entries ≤ p) → v.operations ≤ 64 →
+pub ends : {R : Type 0} (places : ℕ) (rule : Rule) (v u w x : View R) (a p n : ℕ) (l : List LetIn) → (a < v.operations) × (0 < get_or v.running a 0) × (length v.entries ≤ p) → a < 64 →
     GoneOut v u a → Ending rule u w a p n l → n ≤ length l → Nobody w → x ≡ w → Carries places rule v x (end a p (take n l) (Ok n))
-ends places rule v u w x a p n l (known, some, room) few out going within none same t rs (m, calm) =
-    let start = subst (Matches t u) (account_end rule rs a p) (step_end t v _ m u a out (omega arith) ((m.names a).0 known) some) in
+ends places rule v u w x a p n l (known, some, room) below out going within none same t rs (m, calm) =
+    let start = subst (Matches t u) (account_end rule rs a p) (step_end t v _ m u a out below ((m.names a).0 known) some) in
     let (k, far) = going t rs start in
     let long = length-take-le n l within in
     let settled : Settled t (end a p (take n l) (Ok n) ∷ rs) = nobody_joins t w _ k none in (

@@ -14,10 +14,11 @@ use Rattle.doors.specs.Memory.{Tells, Limited}
 use Rattle.translation.specs.declared.Translated.{Translated}
 use Rattle.translation.specs.Translation.{Translates}
 use Rattle.rooms.specs.Entries.{In}
+use Rattle.rooms.specs.Rule.{Rule}
 use Rattle.run.specs.declared.answer.Totals.{Totals}
 use Rattle.run.specs.Closing.{Totaled}
 use Rattle.run.specs.Memory.{View, Reached}
-use Rattle.run.specs.Records.{Record, Rule}
+use Rattle.run.specs.Records.{Record}
 use Rattle.run.specs.Says.{Known}
 use Rattle.run.proofs.Sets.{in_none}
 use Rattle.run.proofs.Steps.{few_ended}
@@ -43,7 +44,7 @@ module _ (t : Text) (w : Within t) (r : Translated) (os : Table Occurrence) (tr 
   }
 
   -- a run that has just been opened
-  pub opened : (rule : Rule) (v : View) → v.entries ≡ [] → v.memory ≡ rule.start → Tells v.doors t [] → v.running ≡ replicate 64 0 → v.operations ≡ min r.names 64 →
+  pub opened : {R : Type 0} (rule : Rule) (v : View R) → v.entries ≡ [] → v.memory ≡ rule.start → Tells v.doors t [] → v.running ≡ replicate 64 0 → v.operations ≡ min r.names 64 →
       v.accepted ≡ 0 → v.let_in ≡ 0 → v.ended ≡ 0 → v.withdrawn ≡ 0 → Reached t rule v []
   opened rule v empty fresh doors none all a b c d = (
     record {
@@ -75,7 +76,7 @@ module _ (t : Text) (w : Within t) (r : Translated) (os : Table Occurrence) (tr 
       zeros x = elim (cases_lt x 64) [ inl l ↦ get_or-replicate 64 x 0 0 l | inr l ↦ get_or_past (replicate 64 0) x 0 l ]
 
 -- the totals of a run
-pub totaled : (t : Text) (rule : Rule) (v : View) (rs : List Record) (r : Totals) → Reached t rule v rs →
+pub totaled : {R : Type 0} (t : Text) (rule : Rule) (v : View R) (rs : List Record) (r : Totals) → Reached t rule v rs →
     r.accepted ≡ v.accepted → r.running ≡ v.let_in - v.ended → r.waiting ≡ length v.entries → r.ended ≡ v.ended → r.withdrawn ≡ v.withdrawn → Totaled rs r
 totaled t rule v rs r (m, calm) a b c d e =
     let few = few_ended t v _ m in

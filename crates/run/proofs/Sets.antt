@@ -3,9 +3,10 @@ use Rattle.std.proofs.Common.{◌≡◌, ℕ, zero, suc, ◌+◌, Bool, true, fa
 use Rattle.std.proofs.lemmas.Bool.{eqb-false, eq-eqb, ne_eqb, both_ways, not-true, not_from_false, cond-true, cond-false}
 use Rattle.rooms.specs.declared.entry.Entry.{Entry}
 use Rattle.rooms.specs.Entries.{In, Ticketed}
+use Rattle.rooms.specs.Rule.{Rule}
 use Rattle.run.specs.declared.answer.LetIn.{LetIn}
 use Rattle.run.specs.Memory.{Distinct}
-use Rattle.run.specs.Records.{Rule, without, without_all, entry_of, remembered_chosen}
+use Rattle.run.specs.Records.{without, without_all, entry_of, remembered_chosen}
 
 pub in_head : (x : Entry) (xs : List Entry) → In x (x ∷ xs)
 in_head x xs = (0, omega arith, refl)

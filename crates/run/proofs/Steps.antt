@@ -1,6 +1,5 @@
 -- The steps of the calls: the memory still matches the records.
 use Rattle.std.proofs.Common.{◌≡◌, ℕ, ◌+◌, ◌-◌, ◌<◌, ◌≤◌, Bool, true, cond, eqb, List, [], ◌∷◌, ◌++◌, length, get_or, set, sym, refl, ap, ◌∙◌, subst, inl, inr, ⊎_elim, arith}
-use native.Mathlib.Bridge.{le_prop}
 use Rattle.std.proofs.lemmas.List.{get_or-set_same, get_or-set_other, length-set}
 use Rattle.std.proofs.lemmas.Bool.{both_ways}
 use Rattle.paths.specs.Grammar.{Text}
@@ -9,26 +8,14 @@ use Rattle.paths.specs.Doors.{begun as begun_in, ended as ended_in}
 use Rattle.paths.specs.Runs.{let_in_by}
 use Rattle.paths.proofs.Occs.{begun_snoc, ended_snoc}
 use Rattle.paths.proofs.Tests.{by_eqb}
-use Rattle.doors.specs.declared.Doors.{Doors}
 use Rattle.rooms.specs.declared.entry.Entry.{Entry}
 use Rattle.rooms.specs.Entries.{In, Joined, Left}
-use Rattle.run.specs.declared.state.Run.{Run}
+use Rattle.rooms.specs.Rule.{Rule}
 use Rattle.run.specs.Memory.{View, Account, Matches, with_in, with_waiting, with_end, with_chosen, with_withdrawn, one_more, one_runs, one_rests, with_accepted, with_room, with_one_withdrawn, GoneIn, GoneOut, Admitted, Nobody}
-use Rattle.run.specs.Records.{Rule, without}
+use Rattle.run.specs.Records.{without}
 use Rattle.run.specs.Says.{Known, Joins, Runs, Chosen}
 use Rattle.run.proofs.Histories.{may_end, let_in_more, let_in_same, ends_more, ends_same, begun_few, ends_few}
 use Rattle.run.proofs.Sets.{in_head, in_tail, in_cases, in_without, without_in, distinct_kept, length_without}
-
--- the room's entries and memory are as they were
-pub view_same : {es fs : List Entry} {m q : ℕ} {d : Doors} {rn : List ℕ} {o a i e w : ℕ} → fs ≡ es → q ≡ m →
-    ◌≡◌ {A = View} (record { entries = fs; memory = q; doors = d; running = rn; operations = o; accepted = a; let_in = i; ended = e; withdrawn = w })
-    (record { entries = es; memory = m; doors = d; running = rn; operations = o; accepted = a; let_in = i; ended = e; withdrawn = w })
-view_same p q = cc
-
--- a run with the room that it had is the run that it was
-pub run_same : {R : Type 0} (s : Run R) (room : R) (few : s.operations ≤ 64) → room ≡ s.room →
-    ◌≡◌ {A = Run R} (record { room = room; doors = s.doors; running = s.running; operations = s.operations; accepted = s.accepted; let_in = s.let_in; ended = s.ended; withdrawn = s.withdrawn; few = few }) s
-run_same s room few p = λ i. record { room = p i; doors = s.doors; running = s.running; operations = s.operations; accepted = s.accepted; let_in = s.let_in; ended = s.ended; withdrawn = s.withdrawn; few = le_prop few s.few i }
 
 -- ---- how many of an operation run
 -- the count of a goes up, or down, by one
@@ -63,7 +50,7 @@ module _ (rn : List ℕ) (h : History) (a : ℕ) (here : a < length rn) where
       (λ p u w. (let same : get_or rn b 0 ≡ get_or rn a 0 = ap (λ k. get_or rn k 0) p in omega arith)) (λ p u w. omega arith) z y
 
 -- ---- the steps
-module _ (t : Text) (v : View) (s : Account) (m : Matches t v s) where
+module _ {R : Type 0} (t : Text) (v : View R) (s : Account) (m : Matches t v s) where
   pub few_let_in : let_in_by s.history ≤ 1000000
   few_let_in = let a = m.in_history in let b = m.all in let c = m.limit in omega arith
 
@@ -75,7 +62,7 @@ module _ (t : Text) (v : View) (s : Account) (m : Matches t v s) where
       let e = ends_few s.history (λ a. (let x = m.each a in omega arith)) in
       let a = m.in_history in let b = m.out_history in omega arith
 
-  pub step_in : (w : View) (a : ℕ) → GoneIn v w a → a < 64 → Joins t s.history a → s.accepted < 1000000 → Matches t (with_accepted (s.accepted + 1) w) (with_in a s)
+  pub step_in : (w : View R) (a : ℕ) → GoneIn v w a → a < 64 → Joins t s.history a → s.accepted < 1000000 → Matches t (with_accepted (s.accepted + 1) w) (with_in a s)
   step_in w a g l f few =
       let all = m.all in
       let limit = m.limit in
@@ -103,9 +90,9 @@ module _ (t : Text) (v : View) (s : Account) (m : Matches t v s) where
         limit = omega arith;
       }
 
-  pub step_wait : (e : Entry) (es : List Entry) (q : ℕ) → Joined e v.entries es → q ≡ v.memory → e.ticket ≡ s.accepted + 1 → Known t e.operation → s.accepted < 1000000 →
-      Matches t (with_accepted (s.accepted + 1) (with_room es q v)) (with_waiting e s)
-  step_wait e es q j same u k few =
+  pub step_wait : (e : Entry) (r : R) (es : List Entry) (q : ℕ) → Joined e v.entries es → q ≡ v.memory → e.ticket ≡ s.accepted + 1 → Known t e.operation → s.accepted < 1000000 →
+      Matches t (with_accepted (s.accepted + 1) (with_room r es q v)) (with_waiting e s)
+  step_wait e r es q j same u k few =
       let xs = s.waiting in
       let all = m.all in
       record {
@@ -134,7 +121,7 @@ module _ (t : Text) (v : View) (s : Account) (m : Matches t v s) where
         limit = omega arith;
       }
 
-  pub step_end : (w : View) (a : ℕ) → GoneOut v w a → a < 64 → Known t a → 0 < get_or v.running a 0 → Matches t w (with_end a s)
+  pub step_end : (w : View R) (a : ℕ) → GoneOut v w a → a < 64 → Known t a → 0 < get_or v.running a 0 → Matches t w (with_end a s)
   step_end w a g l k some =
       let runs : Runs s.history a = (let e = m.each a in omega arith) in
       record {
@@ -173,8 +160,8 @@ module _ (t : Text) (v : View) (s : Account) (m : Matches t v s) where
   gone_many : (e : Entry) (es : List Entry) → Left e v.entries es → length es ≡ length (without e.ticket s.waiting)
   gone_many e es g = let a = g.fewer in let b = m.many in let c = fewer e es g in omega arith
 
-  step_gone : (e : Entry) (es : List Entry) (q : ℕ) → Left e v.entries es → q ≡ v.memory → Matches t (with_one_withdrawn (with_room es q v)) (with_withdrawn e.ticket s)
-  step_gone e es q g same =
+  step_gone : (e : Entry) (r : R) (es : List Entry) (q : ℕ) → Left e v.entries es → q ≡ v.memory → Matches t (with_one_withdrawn (with_room r es q v)) (with_withdrawn e.ticket s)
+  step_gone e r es q g same =
       let k = fewer e es g in
       let all = m.all in
       record {
@@ -200,10 +187,10 @@ module _ (t : Text) (v : View) (s : Account) (m : Matches t v s) where
         limit = m.limit;
       }
 
-  pub step_withdrawn : (e : Entry) (es : List Entry) (q u : ℕ) → Left e v.entries es → q ≡ v.memory → e.ticket ≡ u → Matches t (with_one_withdrawn (with_room es q v)) (with_withdrawn u s)
-  step_withdrawn e es q u g same p = subst (λ k. Matches t (with_one_withdrawn (with_room es q v)) (with_withdrawn k s)) p (step_gone e es q g same)
+  pub step_withdrawn : (e : Entry) (r : R) (es : List Entry) (q u : ℕ) → Left e v.entries es → q ≡ v.memory → e.ticket ≡ u → Matches t (with_one_withdrawn (with_room r es q v)) (with_withdrawn u s)
+  step_withdrawn e r es q u g same p = subst (λ k. Matches t (with_one_withdrawn (with_room r es q v)) (with_withdrawn k s)) p (step_gone e r es q g same)
 
-  pub step_chosen : (rule : Rule) (w : View) (e : Entry) → Admitted rule v w e → Joins t s.history e.operation → Matches t w (with_chosen rule e s)
+  pub step_chosen : (rule : Rule) (w : View R) (e : Entry) → Admitted rule v w e → Joins t s.history e.operation → Matches t w (with_chosen rule e s)
   step_chosen rule w e g f =
       let a = e.operation in
       let k = fewer e w.entries g.left in
@@ -240,9 +227,9 @@ Blind rule = (q : ℕ) (l k : List Entry) (a : ℕ → Bool) (x : Entry) → ((u
 abbrev pub Sound : Rule → Type 0
 Sound rule = (q : ℕ) (l : List Entry) (a : ℕ → Bool) (x : Entry) → rule.chooses q l a x → In x l × (a x.operation ≡ true)
 
-module _ (t : Text) (v : View) (s : Account) (m : Matches t v s) where
+module _ {R : Type 0} (t : Text) (v : View R) (s : Account) (m : Matches t v s) where
   -- whom the room chose, the rule chooses of those who wait
-  pub chosen : (rule : Rule) → Blind rule → Sound rule → (w : View) (e : Entry) → Admitted rule v w e → Chosen t rule s.remembered s.waiting s.history e
+  pub chosen : (rule : Rule) → Blind rule → Sound rule → (w : View R) (e : Entry) → Admitted rule v w e → Chosen t rule s.remembered s.waiting s.history e
   chosen rule blind sound w e g = record {
     waits = (m.waits e).0 g.left.was;
     fits = ((g.table t s m e.operation).0 (sound v.memory v.entries g.allowed e g.chosen).1).1;

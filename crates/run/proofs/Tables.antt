@@ -1,45 +1,56 @@
 -- The table of the operations that could join, filled from the front.
-use Rattle.std.proofs.Common.{◌≡◌, ℕ, ◌+◌, ◌<◌, ◌≤◌, Bool, true, false, ◌⊎◌, List, length, get_or, set, replicate, Decides, sym, ◌∙◌, subst, inl, inr, arith, below_more}
-use Rattle.std.proofs.lemmas.List.{length-set, length-replicate, get_or-set_same, get_or-set_other, get_or-replicate, get_or_past}
+use Rattle.std.proofs.Common.{◌≡◌, ℕ, ◌+◌, ◌<◌, ◌≤◌, Bool, true, false, List, length, get_or, set, replicate, Decides, Some, None, sym, ◌∙◌, subst, inl, inr, arith, below_more}
+use Rattle.std.proofs.lemmas.List.{length-replicate, length-set, get_or-set_same, get_or-set_other, get_or-replicate, get_or_past}
 use Rattle.std.proofs.lemmas.Bool.{cases_lt, both_ways}
 use Rattle.paths.specs.Grammar.{Text}
-use Rattle.run.specs.Memory.{View, Account, Matches, Fitting}
-use Rattle.run.specs.Says.{Joins}
+use Rattle.rooms.specs.declared.entry.Entry.{Entry}
+use Rattle.rooms.specs.Entries.{In, Left, TakeSays}
+use Rattle.rooms.specs.Rule.{Rule}
+use Rattle.run.specs.Memory.{View, Account, Matches, Tested, Fitting, with_room, GoneIn, Admitted, Admits}
+use Rattle.run.specs.Says.{Known, Joins}
 
--- the first n places say which operations could join, the others are false
-pub record Filled (v : View) (n : ℕ) (table : List Bool) : Type 0 where
+-- the first n places say which operations of the text could join, the others are false
+pub record Filled {R : Type 0} (v : View R) (n : ℕ) (table : List Bool) : Type 0 where
   pub long : length table ≡ 64
-  pub front : (t : Text) (s : Account) → Matches t v s → (a : ℕ) → a < n → Decides (get_or table a false) (Joins t s.history a)
+  pub front : (t : Text) (s : Account) → Matches t v s → (a : ℕ) → a < n → Decides (get_or table a false) (Known t a × Joins t s.history a)
   pub rest : (a : ℕ) → n ≤ a → get_or table a false ≡ false
 
-pub filled_none : (v : View) → Filled v 0 (replicate 64 false)
+pub filled_none : {R : Type 0} (v : View R) → Filled v 0 (replicate 64 false)
 filled_none v = record {
   long = length-replicate {A = Bool} 64 false;
-  front = λ t s m a l. (let no' : ⊥ = omega arith in absurd no');
-  rest = λ a l. nothing (cases_lt a 64);
+  front = λ t s m a l. absurd (omega arith);
+  rest = λ a l. elim (cases_lt a 64) [ inl h ↦ get_or-replicate 64 a false false h | inr h ↦ get_or_past (replicate 64 false) a false h ];
 }
-  where
-    nothing : {a : ℕ} → (a < 64) ⊎ (64 ≤ a) → get_or (replicate 64 false) a false ≡ false
-    nothing {a} (inl l) = get_or-replicate 64 a false false l
-    nothing {a} (inr l) = get_or_past (replicate 64 false) a false l
 
-pub filled_more : (v : View) (n : ℕ) (table : List Bool) (b : Bool) → n < 64 → Filled v n table → ((t : Text) (s : Account) → Matches t v s → Decides b (Joins t s.history n)) → Filled v (n + 1) (set table n b)
-filled_more v n table b l f d =
-    let here : n < length table = (let e = f.long in omega arith) in
-    record {
-      long = length-set table n b ∙ f.long;
-      front = λ t s m. below_more (λ a. Decides (get_or (set table n b) a false) (Joins t s.history a)) n
-          (λ a h. (let ne : a ≡ n → ⊥ = omega arith in subst (λ c. Decides c (Joins t s.history a)) (sym (get_or-set_other table n a b false ne)) (f.front t s m a h)))
-          (subst (λ c. Decides c (Joins t s.history n)) (sym (get_or-set_same table n b false here)) (d t s m));
-      rest = λ a h. (let ne : a ≡ n → ⊥ = omega arith in get_or-set_other table n a b false ne ∙ f.rest a (omega arith));
-    }
+module _ {R : Type 0} (v : View R) (n : ℕ) (table : List Bool) (f : Filled v n table) where
+  -- an operation of the text
+  pub filled_more : (b : Bool) → n < v.operations → n < 64 → Tested v n b → Filled v (n + 1) (set table n b)
+  filled_more b known l test =
+      let long = f.long in
+      record {
+        long = length-set table n b ∙ f.long;
+        front = λ t s m. below_more (λ a. Decides (get_or (set table n b) a false) (Known t a × Joins t s.history a)) n
+            (λ a h. (let ne : a ≡ n → ⊥ = omega arith in subst (λ c. Decides c (Known t a × Joins t s.history a)) (sym (get_or-set_other table n a b false ne)) (f.front t s m a h)))
+            (subst (λ c. Decides c (Known t n × Joins t s.history n)) (sym (get_or-set_same table n b false (omega arith)))
+            (let d = test t s.history m.proper m.fits m.doors in (λ e. ((m.names n).0 known, d.0 e), λ k. d.1 k.1)));
+        rest = λ a h. (let ne : a ≡ n → ⊥ = omega arith in get_or-set_other table n a b false ne ∙ f.rest a (omega arith));
+      }
 
-pub filled_all : (v : View) (n : ℕ) (table : List Bool) → n ≡ v.operations → Filled v n table → Fitting v (λ a. get_or table a false)
-filled_all v n table e f t s m a =
-    elim (cases_lt a n) [
-      | inl l ↦ (let d = f.front t s m a l in (λ b. ((m.names a).0 (omega arith), d.0 b), λ (k, j). d.1 j))
-      | inr ge ↦ (λ b. absurd (both_ways (get_or table a false) (f.rest a ge) b), λ (k, j). (let l = (m.names a).1 k in let no' : ⊥ = omega arith in absurd no'))
-    ]
+  -- a number past them
+  pub filled_past : v.operations ≤ n → Filled v (n + 1) table
+  filled_past past = record {
+    long = f.long;
+    front = λ t s m. below_more (λ a. Decides (get_or table a false) (Known t a × Joins t s.history a)) n (f.front t s m)
+        (λ e. absurd (both_ways (get_or table n false) (f.rest n (omega arith)) e), λ k. (let l = (m.names n).1 k.0 in absurd (omega arith)));
+    rest = λ a h. f.rest a (omega arith);
+  }
+
+  pub filled_all : v.operations ≤ n → Fitting v (λ a. get_or table a false)
+  filled_all all t s m a =
+      elim (cases_lt a n) [
+        | inl l ↦ f.front t s m a l
+        | inr ge ↦ (λ e. absurd (both_ways (get_or table a false) (f.rest a ge) e), λ k. (let l = (m.names a).1 k.0 in absurd (omega arith)))
+      ]
 
 -- an operation that the table allows is below 64
 pub inside : (table : List Bool) (a : ℕ) → length table ≡ 64 → get_or table a false ≡ true → a < 64
@@ -48,3 +59,30 @@ inside table a long b =
       | inl l ↦ l
       | inr ge ↦ absurd (both_ways (get_or table a false) (get_or_past table a false (omega arith)) b)
     ]
+
+-- the room's choice, by the table
+module _ {R : Type 0} (rule : Rule) (v i w : View R) (is : i ≡ v) (table : List Bool) (fits : Fitting v (λ a. get_or table a false)) where
+  -- it chooses nobody
+  pub admits_nobody : TakeSays (λ a. get_or table a false) (rule.chooses i.memory) i.entries w.entries None → w ≡ i → Admits rule v w None
+  admits_nobody says same = (inr (_, fits, subst (λ (z : View R). (x : Entry) → In x z.entries → get_or table x.operation false ≡ false) is says.0), same ∙ is)
+
+  -- it chooses e, which goes in
+  pub admits_one : (r : R) (es : List Entry) (q : ℕ) (e : Entry) → TakeSays (λ a. get_or table a false) (rule.chooses i.memory) i.entries es (Some e) → q ≡ rule.after i.memory e → e.operation < 64 →
+      GoneIn (with_room r es q i) w e.operation → Admitted rule v w e
+  admits_one r es q e =
+      subst (λ (z : View R). TakeSays (λ a. get_or table a false) (rule.chooses z.memory) z.entries es (Some e) → q ≡ rule.after z.memory e → e.operation < 64 → GoneIn (with_room r es q z) w e.operation → Admitted rule v w e) (sym is)
+      (λ says memory l gone. record {
+        allowed = _;
+        table = fits;
+        chosen = says.0;
+        left = subst (Left e v.entries) (sym gone.entries) says.1;
+        memory = gone.memory ∙ memory;
+        within = l;
+        doors = gone.doors;
+        running = gone.running;
+        let_in = gone.let_in;
+        operations = gone.operations;
+        accepted = gone.accepted;
+        ended = gone.ended;
+        withdrawn = gone.withdrawn;
+      })

@@ -1,12 +1,14 @@
 -- Each call has one answer: two lists of lawful records of the same calls are the same.
 use Rattle.std.proofs.Common.{◌≡◌, ℕ, zero, suc, ◌+◌, ◌-◌, ◌<◌, ◌≤◌, Bool, true, false, List, [], ◌∷◌, ◌++◌, length, get_or, take, Ok, Err, Decides, Result, sym, refl, ap, ◌∙◌, subst, inl, inr, arith, take-suc}
-use Rattle.std.proofs.lemmas.List.{get_or_default, take_all, same_from_push}
+use Rattle.std.proofs.lemmas.List.{take_all, same_from_push}
+use Rattle.std.proofs.lemmas.List.Elements.{Contains-get_or}
 use Rattle.std.proofs.lemmas.Bool.{cases_order, false≢true}
 use Rattle.paths.specs.Grammar.{Text}
 use Rattle.paths.specs.Words.{History}
 use Rattle.rooms.specs.declared.entry.Entry.{Entry}
-use Rattle.rooms.specs.Entries.{In, NoTwice, Ticketed, none}
+use Rattle.rooms.specs.Entries.{In, NoTwice, Ticketed}
 use Rattle.rooms.specs.Sets.{one_entry}
+use Rattle.rooms.specs.Rule.{Rule}
 use Rattle.run.specs.declared.answer.Begun.{Begun}
 use Rattle.run.specs.declared.answer.Begun.TheVariants.{In as Goes, Waits}
 use Rattle.run.specs.declared.answer.LetIn.{LetIn}
@@ -15,18 +17,18 @@ use Rattle.run.specs.declared.fault.RunFault.{RunFault}
 use Rattle.run.specs.declared.fault.RunFault.TheVariants.{UnknownOperation, RankTooHigh, TicketsSpent, RoomFull, NotRunning, NotWaiting, ListTooShort}
 use Rattle.run.specs.Law.{call_of, calls, LentTo, Lent, fronts, Told}
 use Rattle.run.specs.Memory.{Distinct}
-use Rattle.run.specs.Records.{Record, begin, end, withdraw, Rule, waiting, history, accepted, without_all, without}
+use Rattle.run.specs.Records.{Record, begin, end, withdraw, waiting, history, accepted, without_all, without}
 use Rattle.run.specs.Says.{Known, Joins, Runs, BeginSays, Chosen, Choice, nobody, LetsIn, EndSays, WithdrawSays, Says}
 use Rattle.run.proofs.Sets.{in_none, in_cases, in_without, in_without_all, distinct_kept}
 
 -- ---- tickets of those who wait
 
 pub distinct_apart : (xs : List Entry) → Distinct xs → NoTwice xs
-distinct_apart [] d i j (l, h, e) = omega arith
-distinct_apart (x ∷ xs) (u, d) zero zero (l, h, e) = omega arith
-distinct_apart (x ∷ xs) (u, d) zero (suc j) (l, h, e) = let k : j < length xs = omega arith in u (get_or xs j none, (j, k, get_or_default xs j (get_or xs j none) none k), sym e)
-distinct_apart (x ∷ xs) (u, d) (suc i) zero (l, h, e) = omega arith
-distinct_apart (x ∷ xs) (u, d) (suc i) (suc j) (l, h, e) = distinct_apart xs d i j (omega arith, omega arith, e)
+distinct_apart [] dist i j d l h e = omega arith
+distinct_apart (x ∷ xs) (u, dist) zero zero d l h e = omega arith
+distinct_apart (x ∷ xs) (u, dist) zero (suc j) d l h e = let k : j < length xs = omega arith in u (get_or xs j d, Contains-get_or xs j d k, sym e)
+distinct_apart (x ∷ xs) (u, dist) (suc i) zero d l h e = omega arith
+distinct_apart (x ∷ xs) (u, dist) (suc i) (suc j) d l h e = distinct_apart xs dist i j d (omega arith) (omega arith) e
 
 distinct_all : (ls : List LetIn) (xs : List Entry) → Distinct xs → Distinct (without_all ls xs)
 distinct_all [] xs d = d

@@ -15,6 +15,7 @@ use Rattle.translation.specs.declared.Translated.{Translated}
 use Rattle.translation.specs.Translation.{Filled, Translates, enough}
 use Rattle.rooms.specs.declared.entry.Entry.{Entry}
 use Rattle.rooms.specs.Entries.{In}
+use Rattle.rooms.specs.Rule.{Rule}
 use Rattle.run.specs.declared.answer.Closed.{Closed}
 use Rattle.run.specs.declared.answer.LetIn.{LetIn}
 use Rattle.run.specs.declared.call.Answer.{Answer}
@@ -22,7 +23,7 @@ use Rattle.run.specs.declared.call.Call.{Call}
 use Rattle.run.specs.Carried.{CarriedAll}
 use Rattle.run.specs.Closing.{Totaled}
 use Rattle.run.specs.Memory.{View, Reached}
-use Rattle.run.specs.Records.{Record, Rule}
+use Rattle.run.specs.Records.{Record}
 use Rattle.run.specs.Whole.{tables, Replayed}
 use Rattle.run.proofs.Unique.{One, one_run}
 
@@ -31,7 +32,7 @@ pub places_enough : (ts : Table Token) (ns : Table Name) (os : Table Occurrence)
 places_enough ts ns os e = leb-true 256 _ (and_parts (leb 64 (length (all_places ns))) (leb 256 (length (all_places os))) (and_parts (leb 1088 (length (all_places ts))) _ (sym e)).1).1
 
 module _ {R : Type 0} (places : ℕ) (rule : Rule) (one : One rule) (entries : R → List Entry) (text : List ℕ) (ts : Table Token) (ns : Table Name) (os : Table Occurrence) where
-  pub replayed : (rd : Read) (tr : Translated) (v w : View) (cs : List Call) (old new : List Answer) (before after : List LetIn) (r : Closed R) →
+  pub replayed : (rd : Read) (tr : Translated) (v w : View R) (cs : List Call) (old new : List Answer) (before after : List LetIn) (r : Closed R) →
       TextRead text ts ns rd →
       ((t : Text) → Filled text ts ns t → Translates t tr os) →
       ((t : Text) → Within t → Translates t tr os → Reached t rule v []) →

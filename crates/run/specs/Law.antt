@@ -4,6 +4,7 @@ use Rattle.paths.specs.Grammar.{Text}
 use Rattle.paths.specs.Texts.{FitsAll}
 use Rattle.rooms.specs.declared.entry.Entry.{Entry}
 use Rattle.rooms.specs.Entries.{In}
+use Rattle.rooms.specs.Rule.{Rule}
 use Rattle.run.specs.declared.answer.Begun.{Begun}
 use Rattle.run.specs.declared.answer.Begun.TheVariants.{In as Goes, Waits}
 use Rattle.run.specs.declared.answer.LetIn.{LetIn}
@@ -14,7 +15,7 @@ use Rattle.run.specs.declared.call.Call.{Call}
 use Rattle.run.specs.declared.call.Call.TheVariants as call
 use Rattle.run.specs.declared.fault.RunFault.{RunFault}
 use Rattle.run.specs.Closing.{Totaled}
-use Rattle.run.specs.Records.{Record, begin, end, withdraw, Rule, waiting, history}
+use Rattle.run.specs.Records.{Record, begin, end, withdraw, waiting, history}
 use Rattle.run.specs.Says.{Unstopped, Joins, Settled, Says}
 
 -- ---- the calls and answers of records, the oldest first

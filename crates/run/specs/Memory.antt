@@ -9,14 +9,16 @@ use Rattle.doors.specs.declared.Doors.{Doors}
 use Rattle.doors.specs.Memory.{Tells}
 use Rattle.rooms.specs.declared.entry.Entry.{Entry}
 use Rattle.rooms.specs.Entries.{In, Ticketed, Left}
+use Rattle.rooms.specs.Rule.{Rule}
 use Rattle.run.specs.declared.fault.RunFault.{RunFault}
 use Rattle.run.specs.declared.fault.RunFault.TheVariants.{UnknownOperation, RankTooHigh, TicketsSpent, RoomFull, NotRunning, NotWaiting, ListTooShort}
-use Rattle.run.specs.declared.state.Run.{Run}
-use Rattle.run.specs.Records.{Record, Rule, waiting, history, accepted, let_in, ended, withdrawn, remembered, without}
+use Rattle.run.specs.Records.{Record, waiting, history, accepted, let_in, ended, withdrawn, remembered, without}
 use Rattle.run.specs.Says.{Known, Joins, Settled, Says}
 
--- the run's memory as plain data, with the room as its entries and what it remembers
-pub record View : Type 0 where
+-- A run as its calls see it: its room, which entries wait there and what it remembers of earlier choices; the doors, how many of each operation run,
+-- how many operations the text has, and what was counted.
+pub record View (R : Type 0) : Type 0 where
+  pub room : R
   pub entries : List Entry
   pub memory : ℕ
   pub doors : Doors
@@ -26,19 +28,6 @@ pub record View : Type 0 where
   pub let_in : ℕ
   pub ended : ℕ
   pub withdrawn : ℕ
-
-abbrev pub view : {R : Type 0} → (R → List Entry) → (R → ℕ) → Run R → View
-view entries memory s = record {
-  entries = entries s.room;
-  memory = memory s.room;
-  doors = s.doors;
-  running = s.running;
-  operations = s.operations;
-  accepted = s.accepted;
-  let_in = s.let_in;
-  ended = s.ended;
-  withdrawn = s.withdrawn;
-}
 
 -- what the records tell
 pub record Account : Type 0 where
@@ -72,7 +61,7 @@ ends_in [] = 0
 ends_in (⊕ a ∷ h) = ends_in h
 ends_in (⊖ a ∷ h) = 1 + ends_in h
 
-pub record Matches (t : Text) (v : View) (s : Account) : Type 0 where
+pub record Matches {R : Type 0} (t : Text) (v : View R) (s : Account) : Type 0 where
   pub proper : EachProper t
   pub fits : FitsAll t s.history
   pub doors : Tells v.doors t s.history
@@ -95,16 +84,16 @@ pub record Matches (t : Text) (v : View) (s : Account) : Type 0 where
   pub limit : s.accepted ≤ 1000000
 
 -- the run's memory is that of the records, and none of those who wait could join
-abbrev pub Reached : Text → Rule → View → List Record → Type 0
+abbrev pub Reached : {R : Type 0} → Text → Rule → View R → List Record → Type 0
 Reached t rule v rs = Matches t v (account rule rs) × Settled t rs
 
 -- A call with its answer takes the memory from v to w: for every tree and all records that the memory v is that of, the answer is the defined one,
 -- and w is the memory of the records with this one.
-abbrev pub Carries : ℕ → Rule → View → View → Record → Type 0
+abbrev pub Carries : {R : Type 0} → ℕ → Rule → View R → View R → Record → Type 0
 Carries places rule v w r = (t : Text) (rs : List Record) → Reached t rule v rs → Says t places rule rs r × Reached t rule w (r ∷ rs)
 
 -- a refusal leaves the run as it was
-abbrev pub Keeps : {A R : Type 0} → Result A RunFault → Run R → Run R → Type 0
+abbrev pub Keeps : {A R : Type 0} → Result A RunFault → View R → View R → Type 0
 Keeps (Ok x) old new = Unit {0}
 Keeps (Err f) old new = new ≡ old
 
@@ -112,68 +101,28 @@ Keeps (Err f) old new = new ≡ old
 
 -- operation a is let in at once
 abbrev pub with_in : ℕ → Account → Account
-with_in a s = record {
-  waiting = s.waiting;
-  history = s.history ++ (⊕ a ∷ []);
-  remembered = s.remembered;
-  accepted = s.accepted + 1;
-  let_in = s.let_in + 1;
-  ended = s.ended;
-  withdrawn = s.withdrawn;
-}
+with_in a s = record s { history = s.history ++ (⊕ a ∷ []); accepted = s.accepted + 1; let_in = s.let_in + 1 }
 
 -- the entry e is told to wait
 abbrev pub with_waiting : Entry → Account → Account
-with_waiting e s = record {
-  waiting = e ∷ s.waiting;
-  history = s.history;
-  remembered = s.remembered;
-  accepted = s.accepted + 1;
-  let_in = s.let_in;
-  ended = s.ended;
-  withdrawn = s.withdrawn;
-}
+with_waiting e s = record s { waiting = e ∷ s.waiting; accepted = s.accepted + 1 }
 
 -- operation a ends
 abbrev pub with_end : ℕ → Account → Account
-with_end a s = record {
-  waiting = s.waiting;
-  history = s.history ++ (⊖ a ∷ []);
-  remembered = s.remembered;
-  accepted = s.accepted;
-  let_in = s.let_in;
-  ended = s.ended + 1;
-  withdrawn = s.withdrawn;
-}
+with_end a s = record s { history = s.history ++ (⊖ a ∷ []); ended = s.ended + 1 }
 
 -- the rule's choice e is let in
 abbrev pub with_chosen : Rule → Entry → Account → Account
-with_chosen rule e s = record {
-  waiting = without e.ticket s.waiting;
-  history = s.history ++ (⊕ e.operation ∷ []);
-  remembered = rule.after s.remembered e;
-  accepted = s.accepted;
-  let_in = s.let_in + 1;
-  ended = s.ended;
-  withdrawn = s.withdrawn;
-}
+with_chosen rule e s = record s { waiting = without e.ticket s.waiting; history = s.history ++ (⊕ e.operation ∷ []); remembered = rule.after s.remembered e; let_in = s.let_in + 1 }
 
 -- the ticket u is withdrawn
 abbrev pub with_withdrawn : ℕ → Account → Account
-with_withdrawn u s = record {
-  waiting = without u s.waiting;
-  history = s.history;
-  remembered = s.remembered;
-  accepted = s.accepted;
-  let_in = s.let_in;
-  ended = s.ended;
-  withdrawn = s.withdrawn + 1;
-}
+with_withdrawn u s = record s { waiting = without u s.waiting; withdrawn = s.withdrawn + 1 }
 
 -- ---- what the steps of a call do to the memory
 
 -- what stops a begin before fitting is asked
-abbrev pub BeginStopped : View → ℕ → ℕ → RunFault → Type 0
+abbrev pub BeginStopped : {R : Type 0} → View R → ℕ → ℕ → RunFault → Type 0
 BeginStopped v a k UnknownOperation = v.operations ≤ a
 BeginStopped v a k RankTooHigh = (a < v.operations) × (9 < k)
 BeginStopped v a k TicketsSpent = (a < v.operations) × (k ≤ 9) × (1000000 ≤ v.accepted)
@@ -182,12 +131,12 @@ BeginStopped v a k NotRunning = ⊥
 BeginStopped v a k NotWaiting = ⊥
 BeginStopped v a k ListTooShort = ⊥
 
-abbrev pub MayBegin : {A : Type 0} → View → ℕ → ℕ → Result A RunFault → Type 0
+abbrev pub MayBegin : {A R : Type 0} → View R → ℕ → ℕ → Result A RunFault → Type 0
 MayBegin v a k (Ok x) = (a < v.operations) × (k ≤ 9) × (v.accepted < 1000000)
 MayBegin v a k (Err f) = BeginStopped v a k f
 
 -- what stops an end
-abbrev pub EndStopped : View → ℕ → ℕ → RunFault → Type 0
+abbrev pub EndStopped : {R : Type 0} → View R → ℕ → ℕ → RunFault → Type 0
 EndStopped v a p UnknownOperation = v.operations ≤ a
 EndStopped v a p RankTooHigh = ⊥
 EndStopped v a p TicketsSpent = ⊥
@@ -196,7 +145,7 @@ EndStopped v a p NotRunning = (a < v.operations) × (slice_index v.running a ≡
 EndStopped v a p NotWaiting = ⊥
 EndStopped v a p ListTooShort = (a < v.operations) × (0 < slice_index v.running a) × (p < length v.entries)
 
-abbrev pub MayEnd : {A : Type 0} → View → ℕ → ℕ → Result A RunFault → Type 0
+abbrev pub MayEnd : {A R : Type 0} → View R → ℕ → ℕ → Result A RunFault → Type 0
 MayEnd v a p (Ok x) = (a < v.operations) × (0 < slice_index v.running a) × (length v.entries ≤ p)
 MayEnd v a p (Err f) = EndStopped v a p f
 
@@ -205,46 +154,16 @@ abbrev pub one_more : ℕ → ℕ
 one_more n = min (n + 1) (2 ^ 32 - 1)
 
 -- the same with u begins accepted
-abbrev pub with_accepted : ℕ → View → View
-with_accepted u v = record {
-  entries = v.entries;
-  memory = v.memory;
-  doors = v.doors;
-  running = v.running;
-  operations = v.operations;
-  accepted = u;
-  let_in = v.let_in;
-  ended = v.ended;
-  withdrawn = v.withdrawn;
-}
+abbrev pub with_accepted : {R : Type 0} → ℕ → View R → View R
+with_accepted u v = record v { accepted = u }
 
--- the same with another set of entries and another memory of choices
-abbrev pub with_room : List Entry → ℕ → View → View
-with_room es m v = record {
-  entries = es;
-  memory = m;
-  doors = v.doors;
-  running = v.running;
-  operations = v.operations;
-  accepted = v.accepted;
-  let_in = v.let_in;
-  ended = v.ended;
-  withdrawn = v.withdrawn;
-}
+-- the same with another room, its entries and what it remembers
+abbrev pub with_room : {R : Type 0} → R → List Entry → ℕ → View R → View R
+with_room r es m v = record v { room = r; entries = es; memory = m }
 
 -- the same with one more withdrawn, as far as the numbers reach
-abbrev pub with_one_withdrawn : View → View
-with_one_withdrawn v = record {
-  entries = v.entries;
-  memory = v.memory;
-  doors = v.doors;
-  running = v.running;
-  operations = v.operations;
-  accepted = v.accepted;
-  let_in = v.let_in;
-  ended = v.ended;
-  withdrawn = one_more v.withdrawn;
-}
+abbrev pub with_one_withdrawn : {R : Type 0} → View R → View R
+with_one_withdrawn v = record v { withdrawn = one_more v.withdrawn }
 
 -- one more of operation a runs
 abbrev pub one_runs : ℕ → List ℕ → List ℕ
@@ -255,7 +174,7 @@ abbrev pub one_rests : ℕ → List ℕ → List ℕ
 one_rests a running = slice_set running a (slice_index running a - 1)
 
 -- operation a goes in by its left doors, and one more of it runs
-pub record GoneIn (v w : View) (a : ℕ) : Type 0 where
+pub record GoneIn {R : Type 0} (v w : View R) (a : ℕ) : Type 0 where
   pub doors : (t : Text) (h : History) → EachProper t → FitsAll t h → let_in_by h ≤ 1000000 → Tells v.doors t h → Tells w.doors t (h ++ (⊕ a ∷ []))
   pub running : w.running ≡ one_runs a v.running
   pub let_in : w.let_in ≡ one_more v.let_in
@@ -267,7 +186,7 @@ pub record GoneIn (v w : View) (a : ℕ) : Type 0 where
   pub withdrawn : w.withdrawn ≡ v.withdrawn
 
 -- operation a leaves by its right doors, and one less of it runs
-pub record GoneOut (v w : View) (a : ℕ) : Type 0 where
+pub record GoneOut {R : Type 0} (v w : View R) (a : ℕ) : Type 0 where
   pub doors : (t : Text) (h : History) → EachProper t → FitsAll t h → let_in_by h ≤ 1000000 → Tells v.doors t h → Tells w.doors t (h ++ (⊖ a ∷ []))
   pub running : w.running ≡ one_rests a v.running
   pub let_in : w.let_in ≡ v.let_in
@@ -279,15 +198,15 @@ pub record GoneOut (v w : View) (a : ℕ) : Type 0 where
   pub withdrawn : w.withdrawn ≡ v.withdrawn
 
 -- the test says whether operation a could join
-abbrev pub Tested : View → ℕ → Bool → Type 0
+abbrev pub Tested : {R : Type 0} → View R → ℕ → Bool → Type 0
 Tested v a b = (t : Text) (h : History) → EachProper t → FitsAll t h → Tells v.doors t h → Decides b (Joins t h a)
 
 -- the table says which operations of the text could join
-abbrev pub Fitting : View → (ℕ → Bool) → Type 0
+abbrev pub Fitting : {R : Type 0} → View R → (ℕ → Bool) → Type 0
 Fitting v allowed = (t : Text) (s : Account) → Matches t v s → (a : ℕ) → Decides (allowed a) (Known t a × Joins t s.history a)
 
 -- the room's choice e among those that could join has left the room and goes in
-pub record Admitted (rule : Rule) (v w : View) (e : Entry) : Type 0 where
+pub record Admitted {R : Type 0} (rule : Rule) (v w : View R) (e : Entry) : Type 0 where
   pub allowed : ℕ → Bool
   pub table : Fitting v allowed
   pub chosen : rule.chooses v.memory v.entries allowed e
@@ -303,9 +222,9 @@ pub record Admitted (rule : Rule) (v w : View) (e : Entry) : Type 0 where
   pub withdrawn : w.withdrawn ≡ v.withdrawn
 
 -- nobody waits, or none of those who wait could join
-abbrev pub Nobody : View → Type 0
+abbrev pub Nobody : {R : Type 0} → View R → Type 0
 Nobody v = (length v.entries ≡ 0) ⊎ ((allowed : ℕ → Bool) × Fitting v allowed × ((x : Entry) → In x v.entries → allowed x.operation ≡ false))
 
-abbrev pub Admits : Rule → View → View → Option Entry → Type 0
+abbrev pub Admits : {R : Type 0} → Rule → View R → View R → Option Entry → Type 0
 Admits rule v w None = Nobody v × (w ≡ v)
 Admits rule v w (Some e) = Admitted rule v w e

@@ -1,8 +1,9 @@
 -- A run as it is told by its calls and their answers, the newest first.
-use Rattle.std.specs.Prelude.{ℕ, ◌+◌, Bool, cond, not, List, [], ◌∷◌, ◌++◌, map, Ok, Err, filter, Result, ◌==◌}
+use Rattle.std.specs.Prelude.{ℕ, ◌+◌, cond, not, List, [], ◌∷◌, ◌++◌, map, Ok, Err, filter, Result, ◌==◌}
 use Rattle.paths.specs.Words.{Event, ⊕, ⊖, History}
 use Rattle.rooms.specs.declared.entry.Entry.{Entry}
 use Rattle.rooms.specs.Entries.{none}
+use Rattle.rooms.specs.Rule.{Rule}
 use Rattle.run.specs.declared.answer.Begun.{Begun}
 use Rattle.run.specs.declared.answer.Begun.TheVariants.{In as Goes, Waits}
 use Rattle.run.specs.declared.answer.LetIn.{LetIn}
@@ -119,13 +120,6 @@ let_in (end a p ls r ∷ rs) = let_in_ended r (let_in rs)
 let_in (withdraw u r ∷ rs) = let_in rs
 
 -- ---- what the room remembers
-
--- A rule of choice: what a new room remembers, what a choice makes of it, and which entry is chosen, by what is remembered, of a set of entries
--- and of the operations allowed.
-pub record Rule : Type 1 where
-  pub start : ℕ
-  pub after : ℕ → Entry → ℕ
-  pub chooses : ℕ → List Entry → (ℕ → Bool) → Entry → Type 0
 
 -- what is remembered after these were chosen
 abbrev pub remembered_chosen : Rule → List LetIn → List Entry → ℕ → ℕ

@@ -6,12 +6,13 @@ use Rattle.paths.specs.Doors.{begun as begun_in, ended as ended_in}
 use Rattle.paths.specs.Texts.{names_of_text, FitsAll}
 use Rattle.rooms.specs.declared.entry.Entry.{Entry}
 use Rattle.rooms.specs.Entries.{In, Ticketed}
+use Rattle.rooms.specs.Rule.{Rule}
 use Rattle.run.specs.declared.answer.Begun.{Begun}
 use Rattle.run.specs.declared.answer.Begun.TheVariants.{In as Goes, Waits}
 use Rattle.run.specs.declared.answer.LetIn.{LetIn}
 use Rattle.run.specs.declared.fault.RunFault.{RunFault}
 use Rattle.run.specs.declared.fault.RunFault.TheVariants.{UnknownOperation, RankTooHigh, TicketsSpent, RoomFull, NotRunning, NotWaiting, ListTooShort}
-use Rattle.run.specs.Records.{Record, begin, end, withdraw, Rule, waiting, history, accepted, remembered}
+use Rattle.run.specs.Records.{Record, begin, end, withdraw, waiting, history, accepted, remembered}
 
 -- operation a is a name of the text
 abbrev pub Known : Text → ℕ → Type 0

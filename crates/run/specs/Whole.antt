@@ -1,7 +1,7 @@
 -- What a replay answers: the judgement of the text, and the law of its run.
 use Rattle.std.specs.Prelude.{◌≡◌, ℕ, ◌<◌, ◌≤◌, ◌⊎◌, List, length, Ok, Err, Result}
 use Rattle.table.specs.declared.Table.{Table}
-use Rattle.table.specs.Contents.{contents, all_places}
+use Rattle.table.specs.Contents.{contents, all_places, RestSame}
 use Rattle.paths.specs.Grammar.{Text}
 use Rattle.paths.specs.Texts.{text_doors}
 use Rattle.tokens.specs.declared.Token.{Token}
@@ -9,17 +9,17 @@ use Rattle.tokens.specs.declared.Name.{Name}
 use Rattle.rules.specs.Faults.{Derives}
 use Rattle.reading.specs.declared.ReadFault.{ReadFault}
 use Rattle.reading.specs.declared.ReadFault.TheVariants.{Grammar, Rule, TooFewPlaces}
-use Rattle.reading.specs.Outcome.{Enough, Lacking, TextRefused, RestSame}
+use Rattle.reading.specs.Outcome.{Enough, Lacking, TextRefused}
 use Rattle.doors.specs.declared.Occurrence.{Occurrence}
 use Rattle.doors.specs.Told.{all_told}
 use Rattle.translation.specs.Translation.{Filled}
 use Rattle.rooms.specs.declared.entry.Entry.{Entry}
+use Rattle.rooms.specs.Rule.{Rule as RuleOfChoice}
 use Rattle.run.specs.declared.answer.Closed.{Closed}
 use Rattle.run.specs.declared.answer.LetIn.{LetIn}
 use Rattle.run.specs.declared.call.Answer.{Answer}
 use Rattle.run.specs.declared.call.Call.{Call}
 use Rattle.run.specs.Law.{Law}
-use Rattle.run.specs.Records.{Rule as RuleOfChoice}
 
 -- the tables of a text: its tokens, its names, its occurrences
 pub record Tables : Type 0 where

@@ -1,4 +1,5 @@
 // What the calls of a run answer.
+use rooms::entry::Entry;
 
 // A begin that is accepted, with its ticket: let in, or told to wait.
 #[derive(Clone, Copy)]
@@ -8,10 +9,23 @@ pub enum Begun {
 }
 
 // One that an end let in: the ticket and its operation.
-#[derive(Clone, Copy)]
+#[derive(Clone, Copy, Default)]
 pub struct LetIn {
     pub ticket: u32,
     pub operation: u8,
+}
+
+impl From<Entry> for LetIn {
+    ghost use Rattle.std.specs.Prelude.{◌≡◌};
+
+    ghost from_gives = { λ e l. l ≡ record { ticket = e.ticket; operation = e.operation } };
+
+    fn from(entry: Entry) -> LetIn {
+        LetIn {
+            ticket: entry.ticket,
+            operation: entry.operation,
+        }
+    }
 }
 
 // What a closed run counted.

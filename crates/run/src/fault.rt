@@ -4,7 +4,7 @@ mod numbers;
 #[derive(Clone, Copy)]
 pub enum RunFault {
     // the text has no operation of this number
-    UnknownOperation,
+    UnknownOperation = 13,
     // the rank is above 9
     RankTooHigh,
     // 1,000,000 begins were accepted

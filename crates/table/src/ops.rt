@@ -1,4 +1,4 @@
-ghost use Rattle.std.specs.Prelude.{◌≡◌, ◌+◌, ◌<◌, ◌≤◌, [], ◌∷◌, ◌++◌, length, is_ok, if◌then◌else◌, MatchOption, nat_lt, slice_index_or, slice_set};
+ghost use Rattle.std.specs.Prelude.{◌≡◌, ◌+◌, ◌<◌, ◌≤◌, [], ◌∷◌, ◌++◌, length, is_ok, if◌then◌else◌, MatchOption, nat_lt, slice_index_or, slice_set, take};
 ghost use Rattle.table.specs.Contents.{all_places, contents};
 
 use super::{Full, Rows, Table};
@@ -11,12 +11,12 @@ fn put<T: Copy>(places: &mut [T], at: usize, item: T)
     places[at] = item;
 }
 
-// The record at a place.
-fn look<T: Copy>(places: &[T], i: usize) -> T
-    requires { i < length places.now }
-    ensures shown { result ≡ slice_index_or places.now i result }
+// The first places.
+fn first<T>(places: &[T], count: usize) -> &[T]
+    requires { count ≤ length places.now }
+    ensures first { result.now ≡ take count places.now }
 {
-    places[i]
+    &places[..count]
 }
 
 impl<'a, T: Copy> Rows<'a, T> {
@@ -65,34 +65,18 @@ impl<'a, T: Copy> Table<'a, T> {
         self.count = 0;
     }
 
-    // The record at a number below the count.
-    fn record(&self, i: usize) -> T
-        requires { i < self.now.count }
-        ensures inside { i < length (contents self.now) }
-        ensures shown { result ≡ slice_index_or (contents self.now) i result }
+    // The records, in the order in which they were added.
+    pub fn records(&self) -> &[T]
+        ensures shown { result.now ≡ contents self.now }
     {
-        look(self.rows.places, i)
+        first(self.rows.places, self.count)
     }
 
     // The record at a number below the count, otherwise none.
     pub fn get(&self, i: usize) -> Option<T>
         ensures shown { MatchOption result (length (contents self.now) ≤ i) (λ x. (i < length (contents self.now)) × (x ≡ slice_index_or (contents self.now) i x)) }
     {
-        if i < self.count() {
-            Some(self.record(i))
-        } else {
-            None
-        }
-    }
-
-    // Adds a record at the end, where there is a place; `count` is the new count.
-    fn push(&mut self, item: T, count: usize)
-        requires { (count ≡ length (contents self.old) + 1) × (count ≤ length (all_places self.old)) }
-        ensures records { contents self.new ≡ contents self.old ++ item ∷ [] }
-        ensures places { all_places self.new ≡ slice_set (all_places self.old) (length (contents self.old)) item }
-    {
-        self.rows.write(self.count, item);
-        self.count = count;
+        self.records().get(i).copied()
     }
 
     // Adds a record at the end; full exactly when the count equals the places. No other place is touched.
@@ -105,7 +89,8 @@ impl<'a, T: Copy> Table<'a, T> {
         if count >= self.places() {
             return Err(Full);
         }
-        self.push(item, count + 1);
+        self.rows.write(count, item);
+        self.count = count + 1;
         Ok(())
     }
 }

@@ -3,54 +3,43 @@
 
 #[cfg(test)]
 mod tests {
-    use doors::{Door, Occurrence};
-    use page::put;
+    use doors::Occurrence;
     use print::{print_doors, print_fault};
     use reading::text::read;
+    use std::alloc::{AllocError, Global};
     use std::process::Abort;
+    use std::test::Fail;
     use table::Table;
-    use tokens::{Kind, Name, Token};
+    use tokens::{Name, Names, Token};
     use translation::translate;
 
-    // Prints the doors of a text, or its fault, and answers how many bytes.
-    fn print_text(text: &[u8], page: &mut [u8]) -> usize {
-        let mut token_places = [Token {
-            kind: Kind::End,
-            place: 0,
-            len: 0,
-        }; 1088];
+    // Prints the doors of a text, or its fault, and answers how many bytes, none where that is refused.
+    fn print_text(text: &[u8], page: &mut [u8]) -> Option<usize> {
+        let mut token_places = [Token::default(); 1088];
         let mut tokens = Table::new(&mut token_places);
-        let mut name_places = [Name { place: 0, len: 0 }; 64];
+        let mut name_places = [Name::default(); 64];
         let mut names = Table::new(&mut name_places);
-        let door = Door {
-            semaphore: 0,
-            counter: None,
-        };
-        let mut places = [Occurrence {
-            path: 0,
-            operation: 0,
-            left: door,
-            right: door,
-        }; 256];
+        let mut places = [Occurrence::default(); 256];
         let mut occurrences = Table::new(&mut places);
         let printed = match read(text, &mut tokens, &mut names) {
-            Ok(state) => match translate(state, text, &tokens, &names, &mut occurrences) {
-                Ok(_) => print_doors(page, text, &names, &occurrences),
-                Err(_) => Ok(0),
-            },
+            Ok(read) => {
+                let _ = translate(read, text, &tokens, &names, &mut occurrences).ok()?;
+                let names = Names {
+                    text,
+                    records: names.records(),
+                };
+                print_doors(page, names, occurrences.records())
+            }
             Err(fault) => print_fault(page, fault),
         };
-        match printed {
-            Ok(n) => n,
-            Err(_) => 0,
-        }
+        printed.ok()
     }
 
     fn check_print(rt: &impl Abort, text: &[u8], expected: &[u8]) {
         let mut page = [b'#'; 16384];
-        let n = print_text(text, &mut page);
+        let n = print_text(text, &mut page).expect(rt, "the page is large enough");
         assert!(rt; n < 16384);
-        assert_eq!(rt; &page[0..n], expected);
+        assert_eq!(rt; &page[..n], expected);
         assert_eq!(rt; page[n], b'#');
     }
 
@@ -98,42 +87,27 @@ mod tests {
         check_print(&rt, b"path a;a end", b"rules 8 at 7\n");
     }
 
-    // Bytes behind those of a text so far.
-    fn append(text: &mut [u8], at: usize, bytes: &[u8]) -> usize {
-        if at > text.len() {
-            return at;
-        }
-        at + put(&mut text[at..], bytes)
-    }
-
     // Four paths of 64 names of 16 bytes, each name in braces of its own.
-    fn largest(text: &mut [u8]) -> usize {
-        let mut at = 0;
+    fn largest(heap: Global) -> Result<Vec<u8>, AllocError> {
+        let mut text = Vec::new(heap);
         for _ in 0..4 {
-            at = append(text, at, b"path");
+            text.extend_from_slice(b"path")?;
             for name in 0..64u8 {
-                at = append(
-                    text,
-                    at,
-                    if name == 0 {
-                        b" {abcdefghijklmn"
-                    } else {
-                        b";{abcdefghijklmn"
-                    },
-                );
-                at = append(text, at, &[b'a' + name / 16, b'a' + name % 16, b'}']);
+                text.extend_from_slice(if name == 0 { b" {" } else { b";{" })?;
+                text.extend_from_slice(b"abcdefghijklmn")?;
+                text.extend_from_slice(&[b'a' + name / 16, b'a' + name % 16, b'}'])?;
             }
-            at = append(text, at, b" end ");
+            text.extend_from_slice(b" end ")?;
         }
-        at
+        Ok(text)
     }
 
     #[test]
-    fn largest_table(rt: HostRuntime) {
-        let mut text = [b' '; 4900];
-        assert_eq!(rt; largest(&mut text), 4900);
+    fn largest_table(rt: HostRuntime) -> Result<(), Fail> {
+        let text = largest(rt.alloc())?;
+        assert_eq!(rt; text.len(), 4900);
         let mut page = [b'#'; 16384];
-        assert_eq!(rt; print_text(&text, &mut page), 10312);
+        assert_eq!(rt; print_text(&text, &mut page), Some(10312));
         assert_eq!(rt;
             &page[0..34],
             b"0 abcdefghijklmnaa in 0/0 out 1/0\n".as_slice()
@@ -142,15 +116,16 @@ mod tests {
             &page[10270..10313],
             b"3 abcdefghijklmndp in 255/255 out 192/255\n#".as_slice()
         );
+        Ok(())
     }
 
     // A page under 16,384 bytes is refused and left as it is.
     #[test]
     fn small_page(rt: HostRuntime) {
         let mut page = [b'#'; 16383];
-        assert_eq!(rt; print_text(b"path a end", &mut page), 0);
+        assert_eq!(rt; print_text(b"path a end", &mut page), None);
         assert_eq!(rt; page[0], b'#');
-        assert_eq!(rt; print_text(b"path", &mut page), 0);
+        assert_eq!(rt; print_text(b"path", &mut page), None);
         assert_eq!(rt; page[0], b'#');
     }
 }

@@ -1,4 +1,2 @@
-mod Runs
 mod Blanks
-mod Follow
-mod Numbering
+mod Words

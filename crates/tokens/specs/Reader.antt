@@ -2,8 +2,6 @@
 use Rattle.std.specs.Prelude.{◌≡◌, ℕ, suc, ◌+◌, ◌<◌, ◌≤◌, cond, ◌≢◌, List, [], ◌∷◌, take, Some, None, Ok, Err, Option, Result, nat_le}
 use Rattle.std.specs.List.{prefix_len}
 use Rattle.tokens.specs.declared.Token.{Token}
-use Rattle.tokens.specs.declared.class.Class.{Class}
-use Rattle.tokens.specs.declared.class.Class.TheVariants.{Blank, Letter, Digit, Other, Sign}
 use Rattle.tokens.specs.declared.BytesFault.{BytesFault}
 use Rattle.tokens.specs.declared.BytesFault.TheVariants.{TooLong, NoToken, LongName}
 use Rattle.tokens.specs.declared.TokenReader.{TokenReader}
@@ -56,14 +54,6 @@ Moved n p q (Ok (Some t)) = (q ≡ t.place + t.len) × (p < q) × (q ≤ n)
 Moved n p q (Err e) = q ≡ p
 
 -- ---- what the scans tell each other
--- a byte's class as the code has it
-abbrev pub class_of : Class → Byte
-class_of Blank = blank
-class_of Letter = letter
-class_of Digit = digit
-class_of Other = other
-class_of (Sign k) = sign k
-
 -- the bytes do not begin with a blank
 abbrev pub Solid : List ℕ → Type 0
 Solid [] = Unit {0}

@@ -1,5 +1,5 @@
 -- The tokens of a text of bytes, and the number of a name.
-use Rattle.std.specs.Prelude.{ℕ, suc, Bool, true, false, cond, not, ◌&&◌, ◌||◌, List, [], ◌∷◌, take, drop, codes, ◌==◌, nat_le}
+use Rattle.std.specs.Prelude.{ℕ, suc, Bool, true, false, cond, not, ◌&&◌, ◌||◌, List, [], ◌∷◌, take, drop, codes, ◌==◌, nat_le, slice_index_or}
 use Rattle.std.specs.List.{prefix_len}
 use Rattle.std.specs.Str.{bytes_eq}
 use Rattle.tokens.specs.declared.Kind.{Kind}
@@ -25,6 +25,17 @@ byte b =
     (cond (b == 125) (sign BraceClose)
     (cond (nat_le 97 b && nat_le b 122) letter
     (cond (nat_le 48 b && nat_le b 57) digit other))))))))
+
+-- blanks are passed over between tokens
+abbrev pub is_gap : Byte → Bool
+is_gap blank = true
+is_gap letter = false
+is_gap digit = false
+is_gap other = false
+is_gap (sign k) = false
+
+abbrev pub in_gap : ℕ → Bool
+in_gap b = is_gap (byte b)
 
 -- letters and digits carry a name on
 abbrev pub goes_on : Byte → Bool
@@ -103,3 +114,11 @@ spelling text t = spelled text t.place t.len
 -- the number of the first name that is spelled as the word w, or the count of the names if none is
 abbrev pub number_of : List ℕ → List Name → List ℕ → ℕ
 number_of text names w = prefix_len (λ (u : Name). not (bytes_eq (spelled text u.place u.len) w)) names
+
+-- where a name stands, if there is one of that number; else an empty part
+abbrev pub name_at : List Name → ℕ → Name
+name_at names n = slice_index_or names n (record { place = 0; len = 0 })
+
+-- the bytes of the name with a number
+abbrev pub name_bytes : List ℕ → List Name → ℕ → List ℕ
+name_bytes text names n = spelled text (name_at names n).place (name_at names n).len

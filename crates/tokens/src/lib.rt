@@ -3,16 +3,16 @@
 
 ghost use Rattle.std.specs.Prelude.{◌≤◌, length};
 
-mod class;
-mod names;
+mod lookup;
 mod reader;
 mod scan;
 
-pub use names::{number, part};
+pub use lookup::part;
 pub use reader::check_length;
+pub use scan::word_len;
 
 // What a token is.
-#[derive(Clone, Copy, PartialEq)]
+#[derive(Clone, Copy, PartialEq, Default)]
 pub enum Kind {
     Semicolon,
     Comma,
@@ -21,12 +21,13 @@ pub enum Kind {
     BraceOpen,
     BraceClose,
     Path,
+    #[default]
     End,
     Name,
 }
 
 // A token: its kind, the place of its first byte in the text, and its length.
-#[derive(Clone, Copy)]
+#[derive(Clone, Copy, Default)]
 pub struct Token {
     pub kind: Kind,
     pub place: usize,
@@ -34,10 +35,17 @@ pub struct Token {
 }
 
 // Where a name stands first in the text.
-#[derive(Clone, Copy)]
+#[derive(Clone, Copy, Default)]
 pub struct Name {
     pub place: usize,
     pub len: usize,
+}
+
+// The names of a text: the text, and where each of its names stands first.
+#[derive(Clone, Copy)]
+pub struct Names<'a> {
+    pub text: &'a [u8],
+    pub records: &'a [Name],
 }
 
 // Why the bytes have no next token.

@@ -2,7 +2,7 @@ ghost use Rattle.std.specs.Prelude.{◌≡◌, length, drop};
 ghost use Rattle.tokens.specs.Reader.{bytes, next, Found, Moved, Measured};
 ghost use Rattle.tokens.specs.Tokens.{spelling};
 
-use super::names::part;
+use super::lookup::part;
 use super::scan::follow;
 use super::{BytesFault, Token, TokenReader};
 
@@ -34,9 +34,11 @@ impl<'a> TokenReader<'a> {
         ensures text { bytes self.new ≡ bytes self.old }
         ensures moved { Moved (length (bytes self.old)) self.old.place self.new.place result }
     {
-        let (found, place) = follow(self.text, self.place);
-        self.place = place;
-        found
+        let found = follow(self.text, self.place)?;
+        if let Some(token) = found {
+            self.place = token.place + token.len;
+        }
+        Ok(found)
     }
 
     // The part of the text that a token is.

@@ -1,5 +1,5 @@
-pub mod Lists
-pub mod Scan
-pub mod Spelled
-pub mod Readers
-pub mod Translating
+mod Lists
+mod Scan
+mod Spelled
+mod Readers
+mod Translating

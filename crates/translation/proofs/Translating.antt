@@ -20,7 +20,8 @@ use Rattle.rules.proofs.Within.{limits_count}
 use Rattle.doors.specs.declared.Occurrence.{Occurrence}
 use Rattle.doors.specs.Told.{all_told}
 use Rattle.translation.specs.declared.Translated.{Translated}
-use Rattle.translation.specs.Rows.{source, row}
+use Rattle.translation.specs.declared.text.Source.{Source}
+use Rattle.translation.specs.Rows.{row}
 use Rattle.translation.specs.Trees.{spell_text, first, PathsTold}
 use Rattle.translation.specs.Translation.{enough, Filled, Translates}
 use Rattle.translation.proofs.Spelled.{spelled_text}
@@ -32,14 +33,16 @@ enough_room T names out e = grind (arith, nat_tests)
 many_names : (text : List ℕ) (t : Text) → Derives text t → different (names_of_text t) ≡ length (firsts text (tokens text))
 many_names text t d = ap different (sym (names_text t) ∙ ap names_of d.yields) ∙ (numbered text (tokens text) [] (sym (append-nil (tokens text)))).count
 
-module _ (text : List ℕ) (T : Table Token) (names : Table Name) (t : Text) (f : Filled text T names t) where
+module _ (text : List ℕ) (T : Table Token) (names : Table Name) (t : Text) (f : Filled text T names t) (S : Source)
+    (text_is : S.names.text.now ≡ text) (tokens_are : S.tokens.now ≡ contents T) (names_are : S.names.records.now ≡ contents names) where
   -- the tables are the row that the tree spells
-  row_spelled : row (source text T names) ≡ spell_text t
+  row_spelled : row S ≡ spell_text t
   row_spelled =
-      let same : row (source text T names) ≡ terminals text (tokens text) = λ i. map (λ (x : Token). terminal_of x.kind (number_of text (f.names_are i) (spelling text x))) (f.tokens_are i) in
+      let same : row S ≡ terminals text (tokens text) =
+      λ i. map (λ (x : Token). terminal_of x.kind (number_of (text_is i) ((names_are ∙ f.names_are) i) (spelling (text_is i) x))) ((tokens_are ∙ f.tokens_are) i) in
       same ∙ sym f.derives.yields ∙ spelled_text t
 
-  pub translates : (r : Translated) (empty after : Table Occurrence) → contents empty ≡ [] → 256 ≤ length (all_places empty) → PathsTold (source text T names) first 0 r empty after → Translates t r after
+  pub translates : (r : Translated) (empty after : Table Occurrence) → contents empty ≡ [] → 256 ≤ length (all_places empty) → PathsTold S first 0 r empty after → Translates t r after
   translates r empty after none room told =
       let many = limits_count t f.within in
       let few = doors_are_few t in
@@ -47,7 +50,7 @@ module _ (text : List ℕ) (T : Table Token) (names : Table Name) (t : Text) (f 
       let p : how_many paths (yield_text t) ≡ how_many paths (spell_text t) = ap (how_many paths) spelled in
       let s : how_many semaphores (yield_text t) ≡ how_many semaphores (spell_text t) = ap (how_many semaphores) spelled in
       let c : how_many counters (yield_text t) ≡ how_many counters (spell_text t) = ap (how_many counters) spelled in
-      let count = ap length f.names_are ∙ sym (many_names text t f.derives) in
+      let count = ap length (names_are ∙ f.names_are) ∙ sym (many_names text t f.derives) in
       let limit = f.within.names in
       let o = told.text t 0 0 0 (omega arith) refl refl refl row_spelled (omega arith) (omega arith) (omega arith) f.within.depth in
       let n = length (all_places empty) in
@@ -55,7 +58,7 @@ module _ (text : List ℕ) (T : Table Token) (names : Table Name) (t : Text) (f 
       record {
         doors = o.added ∙ ap (λ l. take n (all_told l ++ text_doors t 0 0 0)) none ∙ take_all n (text_doors t 0 0 0) fits;
         names = o.names ∙ count;
-        operations = λ a. names_numbered text t f.derives a ∙ ap (ltb a) (sym (o.names ∙ ap length f.names_are));
+        operations = λ a. names_numbered text t f.derives a ∙ ap (ltb a) (sym (o.names ∙ ap length (names_are ∙ f.names_are)));
         paths = o.paths ∙ omega arith;
         semaphores = o.semaphores ∙ omega arith;
         counters = o.counters ∙ omega arith;

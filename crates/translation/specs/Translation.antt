@@ -1,7 +1,7 @@
 -- What a translation answers, and what it leaves in the table of occurrences.
-use Rattle.std.specs.Prelude.{◌≡◌, ℕ, Bool, ◌&&◌, List, length, drop, Ok, Err, Result, nat_le, nat_lt}
+use Rattle.std.specs.Prelude.{◌≡◌, ℕ, Bool, ◌&&◌, List, length, Ok, Err, Result, nat_le, nat_lt}
 use Rattle.table.specs.declared.Table.{Table}
-use Rattle.table.specs.Contents.{contents, all_places}
+use Rattle.table.specs.Contents.{contents, all_places, RestSame}
 use Rattle.paths.specs.Grammar.{Text, yield_text}
 use Rattle.paths.specs.Words.{among}
 use Rattle.paths.specs.Texts.{text_doors, names_of_text}
@@ -43,13 +43,8 @@ pub record Translates (t : Text) (r : Translated) (after : Table Occurrence) : T
   pub semaphores : r.semaphores ≡ how_many semaphores (yield_text t)
   pub counters : r.counters ≡ how_many counters (yield_text t)
 
--- whatever the tables hold, only places in front of the count were written
-pub record InsideKept (before after : Table Occurrence) : Type 0 where
-  pub places : length (all_places after) ≡ length (all_places before)
-  pub beyond : drop (length (contents after)) (all_places after) ≡ drop (length (contents after)) (all_places before)
-
--- translated, or refused with nothing touched and the reading handed back
+-- translated, and whatever the tables hold only places in front of the count were written; or refused with nothing touched and the reading handed back
 abbrev pub Outcome : Read → List ℕ → Table Token → Table Name → Table Occurrence → Table Occurrence → Result Translated TooFewPlaces → Type 0
 Outcome read text token_table name_table before after (Ok r) =
-    InsideKept before after × ((t : Text) → Filled text token_table name_table t → Translates t r after)
+    RestSame before after × ((t : Text) → Filled text token_table name_table t → Translates t r after)
 Outcome read text token_table name_table before after (Err e) = (after ≡ before) × (e.read ≡ read)

@@ -14,7 +14,8 @@ use Rattle.doors.specs.Told.{door_of}
 use Rattle.translation.specs.declared.Translated.{Translated}
 use Rattle.translation.specs.declared.steps.Place.{Place}
 use Rattle.translation.specs.declared.steps.Between.{Between}
-use Rattle.translation.specs.Rows.{Source, ahead, kind_of, front, Added, later}
+use Rattle.translation.specs.declared.text.Source.{Source}
+use Rattle.translation.specs.Rows.{ahead, kind_of, front, Added, later}
 
 -- ---- rows of terminals: a tree, then the rest
 abbrev mutual
@@ -60,7 +61,7 @@ scan d n (Name ∷ ks) = scan d n ks
 -- ---- what a reader leaves behind a tree
 -- how a reader starts: the next numbers s and c, in path p, between two doors
 pub record Stands (src : Source) (start : Place) (b : Between) (p s c : ℕ) (left right : TheDoor) : Type 0 where
-  pub few : length src.names ≤ 255
+  pub few : length src.names.records.now ≤ 255
   pub semaphore : start.semaphore ≡ s
   pub counter : start.counter ≡ c
   pub number : b.path ≡ p
@@ -84,7 +85,7 @@ SequenceTold src depth start b to before after =
 -- behind a selection; no ',' follows it
 abbrev pub SelectionTold : Source → ℕ → Place → Between → Place → Table Occurrence → Table Occurrence → Type 0
 SelectionTold src depth start b to before after =
-    (l : Selection) (rest : List Terminal) (p s c : ℕ) (left right : TheDoor) → Stands src start b p s c left right → (front (map kind_of rest) ≢ Comma) → ahead src start.token ≡ spell_selection l rest →
+    (l : Selection) (rest : List Terminal) (p s c : ℕ) (left right : TheDoor) → Stands src start b p s c left right → (front (map kind_of rest) ≢ Some Comma) → ahead src start.token ≡ spell_selection l rest →
     s + semaphores_in_selection l ≤ 256 → c + counters_in_selection l ≤ 256 → depth_of_selection l ≤ depth →
     Done src rest to (s + semaphores_in_selection l) (c + counters_in_selection l) before (selection_doors l p left right s c) after
 
@@ -108,7 +109,7 @@ first = record { token = 0; semaphore = 0; counter = 0 }
 
 -- all paths are read: n paths, s semaphores and c counters are taken, and os were added
 pub record Over (src : Source) (r : Translated) (n s c : ℕ) (before : Table Occurrence) (os : List TheOccurrence) (after : Table Occurrence) : Type 0 where
-  pub names : r.names ≡ length src.names
+  pub names : r.names ≡ length src.names.records.now
   pub paths : r.paths ≡ n
   pub semaphores : r.semaphores ≡ s
   pub counters : r.counters ≡ c
@@ -117,6 +118,6 @@ pub record Over (src : Source) (r : Translated) (n s c : ℕ) (before : Table Oc
 -- from a place on, where the next path has the number n: behind nothing, and behind the paths of a text
 pub record PathsTold (src : Source) (start : Place) (n : ℕ) (r : Translated) (before after : Table Occurrence) : Type 0 where
   pub none : ahead src start.token ≡ [] → Over src r n start.semaphore start.counter before [] after
-  pub text : (t : Text) (k s c : ℕ) → length src.names ≤ 255 → n ≡ k → start.semaphore ≡ s → start.counter ≡ c → ahead src start.token ≡ spell_text t →
+  pub text : (t : Text) (k s c : ℕ) → length src.names.records.now ≤ 255 → n ≡ k → start.semaphore ≡ s → start.counter ≡ c → ahead src start.token ≡ spell_text t →
       k + how_many paths (spell_text t) ≤ 256 → s + how_many semaphores (spell_text t) ≤ 256 → c + how_many counters (spell_text t) ≤ 256 → depth_of_text t ≤ 16 →
       Over src r (k + how_many paths (spell_text t)) (s + how_many semaphores (spell_text t)) (c + how_many counters (spell_text t)) before (text_doors t k s c) after

@@ -4,6 +4,7 @@
 mod counts;
 mod refusal;
 mod steps;
+mod text;
 mod walk;
 
 use reading::Read;

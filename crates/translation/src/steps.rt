@@ -1,16 +1,14 @@
-ghost use Rattle.std.specs.Prelude.{◌≡◌, ℕ, ◌+◌, ◌<◌, ◌≤◌, List, [], ◌∷◌, length};
-ghost use Rattle.table.specs.Contents.{contents};
-ghost use Rattle.paths.specs.Grammar.{Terminal, word};
+ghost use Rattle.std.specs.Prelude.{◌≡◌, ◌+◌, ◌<◌, ◌≤◌, [], ◌∷◌};
+ghost use Rattle.table.specs.Contents.{RestKept};
 ghost use Rattle.paths.specs.Doors.{with_counter, plain as plain_door};
 ghost use Rattle.doors.specs.Told.{door_of, told};
-ghost use Rattle.translation.specs.Rows.{source, ahead, kinds_from, front, Inside, Past as PastIt, Extends, Added, later};
+ghost use Rattle.translation.specs.Rows.{Added, later};
 
 use doors::{Door, Occurrence};
 use table::Table;
-use tokens::{Kind, Name, Token, number, part};
 
 // Where the translation stands: the next token, and the next free numbers of semaphores and counters.
-#[derive(Clone, Copy)]
+#[derive(Clone, Copy, Default)]
 pub struct Place {
     pub token: usize,
     pub semaphore: u16,
@@ -29,14 +27,14 @@ pub struct Between {
 pub fn after(n: u16) -> u16
     ensures next { result ≡ later n }
 {
-    if n < 256 { n + 1 } else { n }
+    n.saturating_add(1).min(256)
 }
 
 // A number that is not taken yet, as a byte.
 fn byte(n: u16) -> u8
     ensures same { n < 256 → result ≡ n }
 {
-    if n < 256 { n as u8 } else { 255 }
+    u8::try_from(n).unwrap_or(u8::MAX)
 }
 
 // A semaphore without a counter.
@@ -54,8 +52,8 @@ fn counted(door: Door, counter: u8) -> Door
     ensures door { door_of result ≡ with_counter counter (door_of door) }
 {
     Door {
-        semaphore: door.semaphore,
         counter: Some(counter),
+        ..door
     }
 }
 
@@ -67,9 +65,8 @@ impl Place {
         ensures counter { result.counter ≡ self.counter }
     {
         Place {
-            token: self.token,
             semaphore: after(self.semaphore),
-            counter: self.counter,
+            ..self
         }
     }
 
@@ -80,9 +77,8 @@ impl Place {
         ensures counter { result.counter ≡ later self.counter }
     {
         Place {
-            token: self.token,
-            semaphore: self.semaphore,
             counter: after(self.counter),
+            ..self
         }
     }
 }
@@ -108,9 +104,8 @@ impl Between {
         ensures right { semaphore < 256 → door_of result.right ≡ plain_door semaphore }
     {
         Between {
-            path: self.path,
-            left: self.left,
             right: plain(semaphore),
+            ..self
         }
     }
 
@@ -121,9 +116,8 @@ impl Between {
         ensures right { result.right ≡ self.right }
     {
         Between {
-            path: self.path,
             left: plain(semaphore),
-            right: self.right,
+            ..self
         }
     }
 
@@ -135,70 +129,31 @@ impl Between {
     {
         let counter = byte(counter);
         Between {
-            path: self.path,
             left: counted(self.left, counter),
             right: counted(self.right, counter),
+            ..self
         }
     }
-}
 
-// A name keeps the two doors that it is passed.
-pub fn occurrence(between: Between, operation: u8) -> Occurrence
-    ensures path { result.path ≡ between.path }
-    ensures operation { result.operation ≡ operation }
-    ensures left { result.left ≡ between.left }
-    ensures right { result.right ≡ between.right }
-{
-    Occurrence {
-        path: between.path,
-        operation,
-        left: between.left,
-        right: between.right,
-    }
-}
-
-// The kind of a token; behind the last it is `end`.
-pub fn kind_at(tokens: &Table<Token>, at: usize) -> Kind
-    ensures kind { result ≡ front (kinds_from tokens.now at) }
-    ensures inside { Inside at (length (contents tokens.now)) result }
-{
-    match tokens.get(at) {
-        Some(token) => token.kind,
-        None => Kind::End,
-    }
-}
-
-// The number of the name at a token.
-pub fn name_at(text: &[u8], tokens: &Table<Token>, names: &Table<Name>, at: usize) -> u8
-    ensures number { (n : ℕ) (rest : List Terminal) → ahead (source text.now tokens.now names.now) at ≡ word n ∷ rest → length (contents names.now) ≤ 255 → result ≡ n }
-{
-    match tokens.get(at) {
-        Some(token) => {
-            let n = number(text, names, part(text, token.place, token.len));
-            if n < 256 { n as u8 } else { 255 }
+    // A name keeps the two doors that it is passed.
+    pub fn occurrence(self, operation: u8) -> Occurrence
+        ensures path { result.path ≡ self.path }
+        ensures operation { result.operation ≡ operation }
+        ensures left { result.left ≡ self.left }
+        ensures right { result.right ≡ self.right }
+    {
+        Occurrence {
+            path: self.path,
+            operation,
+            left: self.left,
+            right: self.right,
         }
-        None => 0,
-    }
-}
-
-// The place behind the next token; behind the last it stays.
-pub fn past(tokens: &Table<Token>, at: Place) -> Place
-    ensures past { PastIt (contents tokens.now) at result }
-{
-    if at.token < tokens.count() {
-        Place {
-            token: at.token + 1,
-            semaphore: at.semaphore,
-            counter: at.counter,
-        }
-    } else {
-        at
     }
 }
 
 // Adds an occurrence if there is a place left.
 pub fn note(out: &mut Table<Occurrence>, item: Occurrence)
-    ensures kept { Extends out.old out.new }
+    ensures kept { RestKept out.old out.new }
     ensures added { Added out.old (told item ∷ []) out.new }
 {
     let _ = out.add(item);

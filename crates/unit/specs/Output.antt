@@ -2,18 +2,19 @@
 use Rattle.std.specs.Prelude.{◌≡◌, ℕ, ◌+◌, ◌<◌, ◌≤◌, List, [], ◌∷◌, ◌++◌, length, Some, codes}
 use Rattle.paths.specs.Grammar.{Text}
 use Rattle.tokens.specs.declared.Name.{Name}
-use Rattle.tokens.specs.Tokens.{tokens}
+use Rattle.tokens.specs.Tokens.{tokens, name_bytes}
 use Rattle.rules.specs.Names.{firsts}
 use Rattle.rules.specs.Rules.{Within}
 use Rattle.rules.specs.Faults.{FirstFault, Derives}
 use Rattle.reading.specs.declared.ReadFault.{ReadFault}
 use Rattle.reading.specs.Faults.{fault_number, fault_place}
 use Rattle.rooms.specs.First.{First, by_rank as first_by_rank}
+use Rattle.rooms.specs.Rule.{Rule}
 use Rattle.run.specs.declared.answer.Totals.{Totals}
 use Rattle.run.specs.Closing.{Totaled}
 use Rattle.run.specs.Law.{Told}
-use Rattle.run.specs.Records.{Record, Rule}
-use Rattle.print.specs.Lines.{name_bytes, doors_print, fault_line}
+use Rattle.run.specs.Records.{Record}
+use Rattle.print.specs.Lines.{doors_print, fault_line}
 use Rattle.input.specs.Input.{Cut, Lines}
 use Rattle.order_log.specs.Print.{total_line}
 use Rattle.order_log.specs.Rulings.{Ruling, Ruled, with_call, ruling_lines}

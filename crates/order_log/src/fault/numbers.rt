@@ -40,8 +40,7 @@ impl LogFault {
         ensures stage { result ≡ fault_stage self }
     {
         match self {
-            LogFault::Unlawful(_) => Stage::Log,
-            LogFault::UnknownName => Stage::Log,
+            LogFault::Unlawful(_) | LogFault::UnknownName => Stage::Log,
             LogFault::Run(fault) => fault.stage(),
         }
     }

@@ -1,23 +1,26 @@
 ghost use Rattle.std.specs.Prelude.{◌≡◌};
+ghost use Rattle.run.specs.declared.fault.RunFault.TheVariants.{RoomFull};
 ghost use Rattle.run.specs.Faults.{fault_number, fault_stage};
 
 use crate::fault::RunFault;
 use reading::Stage;
+use rooms::entry::PutFault;
+
+// A begin that the room does not take finds no place: its ticket is new.
+impl From<PutFault> for RunFault {
+    ghost from_gives = { λ p f. f ≡ RoomFull };
+
+    fn from(_fault: PutFault) -> RunFault {
+        RunFault::RoomFull
+    }
+}
 
 impl RunFault {
     // The fault's number.
     pub fn number(self) -> u8
         ensures number { result ≡ fault_number self }
     {
-        match self {
-            RunFault::UnknownOperation => 13,
-            RunFault::RankTooHigh => 14,
-            RunFault::TicketsSpent => 15,
-            RunFault::RoomFull => 16,
-            RunFault::NotRunning => 17,
-            RunFault::NotWaiting => 18,
-            RunFault::ListTooShort => 19,
-        }
+        self as u8
     }
 
     // The stage that tells the fault.

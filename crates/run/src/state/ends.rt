@@ -1,37 +1,29 @@
 // How a run begins and how it ends.
-ghost use Rattle.std.specs.Prelude.{◌≡◌, min, List, []};
+ghost use Rattle.std.specs.Prelude.{◌≡◌, List, []};
 ghost use Rattle.paths.specs.Grammar.{Text};
 ghost use Rattle.rules.specs.Rules.{Within};
 ghost use Rattle.translation.specs.Translation.{Translates};
 ghost use Rattle.run.specs.Closing.{Totaled};
-ghost use Rattle.run.specs.Memory.{view, Reached};
+ghost use Rattle.run.specs.Memory.{Reached};
 ghost use Rattle.run.specs.Records.{Record};
 
 use crate::answer::{Closed, Totals};
 use crate::state::Run;
-use crate::state::steps::less;
 use doors::{Doors, Occurrence};
 use rooms::waiting::Room;
 use table::Table;
 use translation::Translated;
 
-// How many operations the text has, of which a run knows 64 at most.
-fn operations(translated: &Translated) -> usize
-    ensures { result ≡ min translated.now.names 64 }
-{
-    translated.names().min(64)
-}
-
 impl<R: Room> Run<R> {
     // Opens a run of a translated text: makes its room and copies the doors.
     pub fn open(translated: &Translated, occurrences: &Table<Occurrence>) -> Self
-        ensures opened { (t : Text) → Within t → Translates t translated.now occurrences.now → Reached t (record { start = R.start; after = R.after; chooses = R.chooses }) (view R.entries R.memory result) [] }
+        ensures opened { (t : Text) → Within t → Translates t translated.now occurrences.now → Reached t R.rule result [] }
     {
         Run {
             room: R::new(),
-            doors: Doors::new(occurrences),
+            doors: Doors::new(occurrences.records()),
             running: [0; 64],
-            operations: operations(translated),
+            operations: translated.names().min(64),
             accepted: 0,
             let_in: 0,
             ended: 0,
@@ -41,8 +33,8 @@ impl<R: Room> Run<R> {
 
     // Takes the run apart into its totals and its room.
     pub(crate) fn apart(self) -> Closed<R>
-        ensures totals { (t : Text) (rs : List Record) → Reached t (record { start = R.start; after = R.after; chooses = R.chooses }) (view R.entries R.memory self) rs → Totaled rs result.totals }
-        ensures room { result.room ≡ self.room }
+        ensures totals { (t : Text) (rs : List Record) → Reached t R.rule self rs → Totaled rs result.totals }
+        ensures waits { R.entries result.room ≡ self.entries }
     {
         let Run {
             room,
@@ -56,7 +48,7 @@ impl<R: Room> Run<R> {
         } = self;
         let totals = Totals {
             accepted,
-            running: less(let_in, ended),
+            running: let_in.saturating_sub(ended),
             waiting: room.count(),
             ended,
             withdrawn,
@@ -68,7 +60,7 @@ impl<R: Room> Run<R> {
 impl<R: Room + Drop> Run<R> {
     // Closes the run, and lets its room go.
     pub fn close(self) -> Totals
-        ensures totals { (t : Text) (rs : List Record) → Reached t (record { start = R.start; after = R.after; chooses = R.chooses }) (view R.entries R.memory self) rs → Totaled rs result }
+        ensures totals { (t : Text) (rs : List Record) → Reached t R.rule self rs → Totaled rs result }
     {
         self.apart().totals
     }

@@ -1,41 +1,19 @@
 // The steps of the calls of a run, for any room.
-ghost use Rattle.std.specs.Prelude.{◌≡◌, ◌-◌, ◌<◌, false, length, slice_index_or, slice_set};
-ghost use Rattle.run.specs.Memory.{view, one_more, with_one_withdrawn, MayBegin, MayEnd, Tested, GoneIn, GoneOut, Fitting, Admits};
+ghost use Rattle.std.specs.Prelude.{◌≡◌, ◌<◌, false, length, slice_index_or, OnOk};
+ghost use Rattle.run.specs.Memory.{MayBegin, MayEnd, Tested, GoneIn, GoneOut, Fitting, Admits};
 
-use crate::answer::LetIn;
 use crate::fault::RunFault;
 use crate::state::Run;
 use rooms::entry::Entry;
 use rooms::waiting::Room;
 
-// One more, as far as the numbers reach.
-fn more(n: u32) -> u32
-    ensures { result ≡ one_more n }
-{
-    n.saturating_add(1)
-}
-
-// What is left of a number.
-pub(crate) fn less(n: u32, taken: u32) -> u32
-    ensures { result ≡ n - taken }
-{
-    n.saturating_sub(taken)
-}
-
-// Puts one whom an end let in at a place of the list.
-pub(crate) fn put(list: &mut [LetIn], at: usize, item: LetIn)
-    requires { at < length list.old }
-    ensures { list.new ≡ slice_set list.old at item }
-{
-    list[at] = item;
-}
-
 impl<R: Room> Run<R> {
     // What stops a begin before fitting is asked: an unknown operation, a rank above 9, or too many begins.
     pub(crate) fn may_begin(&self, operation: u8, rank: u8) -> Result<(), RunFault>
-        ensures { MayBegin (view R.entries R.memory self.now) operation rank result }
+        ensures says { MayBegin self.now operation rank result }
+        ensures within { OnOk result (operation < 64) }
     {
-        if operation as usize >= self.operations {
+        if usize::from(operation) >= self.operations {
             return Err(RunFault::UnknownOperation);
         }
         if rank > 9 {
@@ -49,9 +27,10 @@ impl<R: Room> Run<R> {
 
     // What stops an end: an unknown operation, one that does not run, or a list with fewer places than entries wait.
     pub(crate) fn may_end(&self, operation: u8, places: usize) -> Result<(), RunFault>
-        ensures { MayEnd (view R.entries R.memory self.now) operation places result }
+        ensures says { MayEnd self.now operation places result }
+        ensures within { OnOk result (operation < 64) }
     {
-        let a = operation as usize;
+        let a = usize::from(operation);
         if a >= self.operations {
             return Err(RunFault::UnknownOperation);
         }
@@ -66,70 +45,56 @@ impl<R: Room> Run<R> {
 
     // Whether the operation could join.
     pub(crate) fn could_join(&self, operation: u8) -> bool
-        ensures { Tested (view R.entries R.memory self.now) operation result }
+        ensures { Tested self.now operation result }
     {
         self.doors.fits(operation)
-    }
-
-    // The ticket of the next begin that is accepted.
-    pub(crate) fn ticket(&self) -> u32
-        ensures { result ≡ one_more self.now.accepted }
-    {
-        more(self.accepted)
     }
 
     // The operation goes in, by all its left doors.
     pub(crate) fn go_in(&mut self, operation: u8)
         requires { operation < 64 }
-        ensures { GoneIn (view R.entries R.memory self.old) (view R.entries R.memory self.new) operation }
+        ensures { GoneIn self.old self.new operation }
     {
         self.doors.enter(operation);
-        let a = operation as usize;
-        self.running[a] = more(self.running[a]);
-        self.let_in = more(self.let_in);
+        let a = usize::from(operation);
+        self.running[a] = self.running[a].saturating_add(1);
+        self.let_in = self.let_in.saturating_add(1);
     }
 
     // The operation leaves, by all its right doors.
     pub(crate) fn go_out(&mut self, operation: u8)
         requires { operation < 64 }
-        ensures { GoneOut (view R.entries R.memory self.old) (view R.entries R.memory self.new) operation }
+        ensures { GoneOut self.old self.new operation }
     {
         self.doors.leave(operation);
-        let a = operation as usize;
-        self.running[a] = less(self.running[a], 1);
-        self.ended = more(self.ended);
-    }
-
-    // Counts a withdrawal.
-    pub(crate) fn count_withdrawn(&mut self)
-        ensures { view R.entries R.memory self.new ≡ with_one_withdrawn (view R.entries R.memory self.old) }
-    {
-        self.withdrawn = more(self.withdrawn);
+        let a = usize::from(operation);
+        self.running[a] = self.running[a].saturating_sub(1);
+        self.ended = self.ended.saturating_add(1);
     }
 
     // Which operations of the text could join.
     fn fitting(&self) -> [bool; 64]
-        ensures says { Fitting (view R.entries R.memory self.now) (λ a. slice_index_or result a false) }
+        ensures says { Fitting self.now (λ a. slice_index_or result a false) }
         ensures long { length result ≡ 64 }
     {
         let mut table = [false; 64];
-        for a in 0..self.operations {
-            table[a] = self.could_join(a as u8);
+        for (a, may) in table.iter_mut().enumerate() {
+            if a < self.operations {
+                *may = self.could_join(a as u8);
+            }
         }
         table
     }
 
     // Lets the room's choice among those that could join go in, if one of those who wait could.
     pub(crate) fn admit(&mut self) -> Option<Entry>
-        ensures { Admits (record { start = R.start; after = R.after; chooses = R.chooses }) (view R.entries R.memory self.old) (view R.entries R.memory self.new) result }
+        ensures { Admits R.rule self.old self.new result }
     {
         if self.room.count() == 0 {
             return None;
         }
         let table = self.fitting();
-        let Some(entry) = self.room.take(&table) else {
-            return None;
-        };
+        let entry = self.room.take(&table)?;
         self.go_in(entry.operation);
         Some(entry)
     }

@@ -1,10 +1,10 @@
-use Rattle.std.proofs.Common.{◌≡◌, ◌-◌, ◌≤◌, length}
-use Rattle.input.specs.Told.{whole}
-use Rattle.input.proofs.Cuts.{Past}
+use Rattle.std.proofs.Common.{◌≡◌, ◌+◌, length}
+use Rattle.input.specs.Told.{unread}
+use Rattle.input.proofs.Cuts.{Going}
 use Rattle.input.proofs.cut.split.Given as goal
 
 abbrev pub invariant-loop-line : goal.invariant-loop-line
-invariant-loop-line l = (whole l.lines ≡ l.input) × (l.lines.place ≡ l.text_end) × (l.lines.place ≤ length l.input) × Past l.input l.text_end
+invariant-loop-line l = (l.text_end + length (unread l.lines) ≡ length l.input) × Going l.input (unread l.lines)
 
 abbrev pub decreases-loop-line : goal.decreases-loop-line
-decreases-loop-line l = length l.input - l.lines.place
+decreases-loop-line l = length (unread l.lines)

@@ -1,24 +1,15 @@
-use Rattle.std.proofs.Common.{◌≡◌, ◌-◌, ◌∷◌, take, sym, ◌∙◌, subst, arith}
-use Rattle.std.proofs.lemmas.List.{length-take, take_rest}
-use Rattle.lines.specs.Lines.{begin, Lawful, Wrong, Faulty}
-use Rattle.lines.specs.Reads.{IsRank}
-use Rattle.lines.proofs.Lawfuls.{begin_nameless, begin_faulty, begin_lawful}
+use Rattle.std.proofs.Common.{◌≡◌, ℕ, List, Ok, Err, Result, MatchResult, subst}
+use Rattle.lines.specs.declared.LineFault.{LineFault}
+use Rattle.lines.specs.Reads.{Ranked}
+use Rattle.lines.proofs.Lawfuls.{begin_lawful}
 use Rattle.lines.proofs.read.read_begin.Goals as goal
 
-pub returns-then-len-eq0 : goal.returns-then-len-eq0
-returns-then-len-eq0 c = record { judged = subst (λ k. Faulty (98 ∷ 32 ∷ c.args.rest.now) k) (sym c.in_line.ensures.place) (begin_nameless c.args.rest.now c.name_len-len.result c.name_len-len.ensures.longest c.if-len-eq0.true); small = omega (arith, c.in_line.ensures.place) }
+-- the rank that `map_err` hands on
+ranked : (tail : List ℕ) (r : Result ℕ LineFault) (rank : ℕ) → Ranked tail r → MatchResult r (λ x. ◌≡◌ {A = Result ℕ LineFault} (Ok rank) (Ok x)) (λ f. ⊥) → Ranked tail (Ok rank)
+ranked tail (Ok x) rank h e = let s : x ≡ rank = cc in subst (λ k. Ranked tail (Ok k)) s h
+ranked tail (Err f) rank h e = absurd e
 
-pub returns-in-Ok : goal.returns-in-Ok
-returns-in-Ok c =
-    let rest = c.args.rest.now in
-    let n = c.name_len-len.result in
-    let k = c.in-Ok.ensures.rank in
-    let e : n ≡ n - 0 = omega arith in
-    record { judged = subst (λ j. Lawful (98 ∷ 32 ∷ rest) (begin (take j rest) c.in-Ok.rank)) e (begin_lawful rest n c.name_len-len.ensures.longest c.if-len-eq0.false k.0 c.in-Ok.rank (sym (take_rest rest n) ∙ k.1) k.2 k.3); small = (simp length-take (omega (arith, c.name_len-len.ensures.short)), k.4) }
-
-pub returns-in-Err : goal.returns-in-Err
-returns-in-Err c =
-    let rest = c.args.rest.now in
-    let n = c.name_len-len.result in
-    let q = c.in-Err.fault.place in
-    record { judged = subst (λ k. Faulty (98 ∷ 32 ∷ rest) k) (sym c.in_line-in-Err.ensures.place) (begin_faulty rest n c.name_len-len.ensures.longest c.if-len-eq0.false q (subst (λ t. Wrong IsRank t q) (take_rest rest n) c.in-Err.ensures.rank.0)); small = omega (arith, c.in_line-in-Err.ensures.place, c.name_len-len.ensures.short, c.in-Err.ensures.rank.1) }
+pub returns-clause-judged : goal.returns-clause-judged
+returns-clause-judged c =
+    begin_lawful c.args.rest.now c.name_len-len.result c.name_len-len.ensures.longest c.if-len-eq0.false c.split_at.result.0.now c.in_ok-rank.rank c.split_at.ensures.front
+    (subst (λ t. Ranked t (Ok c.in_ok-rank.rank)) c.split_at.ensures.back (ranked c.split_at.result.1.now c.read_rank.result c.in_ok-rank.rank c.read_rank.ensures.rank c.in_ok-rank.ensures.cases))

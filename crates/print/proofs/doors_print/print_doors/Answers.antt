@@ -12,5 +12,5 @@ returns c =
     record {
       checked = large;
       put = c.put_lines.ensures.written;
-      whole = λ t d. whole (omega (arith, doors_fit c.args.text.now t d.within)) (same_bytes (λ i. lines c.args.text.now (d.names_are i) (d.doors_are i)) c.put_lines.ensures.written);
+      whole = λ t d. whole (omega (arith, doors_fit c.args.names.text.now t d.within)) (same_bytes (λ i. lines c.args.names.text.now (d.names_are i) (d.doors_are i)) c.put_lines.ensures.written);
     }

@@ -1,22 +1,19 @@
-use Rattle.std.proofs.Common.{ap, arith}
+use Rattle.std.proofs.Common.{[], sym, ap, ◌∙◌}
+use Rattle.std.specs.List.{flat_map}
 use Rattle.std.proofs.lemmas.List.{take_all}
-use Rattle.table.specs.Contents.{contents}
-use Rattle.doors.specs.Told.{all_told}
-use Rattle.page.proofs.Fill.{written_none, written_more, same_bytes}
-use Rattle.print.specs.Lines.{lines}
-use Rattle.print.proofs.Joined.{one_more_line}
+use Rattle.std.proofs.lemmas.List.Folds.{flat_map-map}
+use Rattle.doors.specs.Told.{told}
+use Rattle.page.proofs.Fill.{same_bytes}
+use Rattle.print.specs.Lines.{line}
+use Rattle.print.proofs.Joined.{written_next}
 use Rattle.print.proofs.doors_print.put_lines.Goals as goal
 
-pub loop-i-init : goal.loop-i-init
-loop-i-init c = written_none c.args.page.now
-
-pub loop-i-preserved : goal.loop-i-preserved
-loop-i-preserved c =
-    let here = c.in-Some.ensures.shown in
-    same_bytes (one_more_line c.args.text.now (contents c.args.names.now) (contents c.args.occurrences.now) c.loop-i.i c.in-Some.occurrence here.0 here.1)
-    (written_more c.loop-i.invariant c.put_line-at.ensures.written)
+pub loop-occurrence-preserved : goal.loop-occurrence-preserved
+loop-occurrence-preserved c = written_next _ [] c.args.occurrences.now c.loop-occurrence.occurrence-index _ c.loop-occurrence-test.true c.loop-occurrence.invariant c.put_occurrence-at.ensures.written
 
 pub returns : goal.returns
 returns c =
-    let all = take_all c.loop-i.i (contents c.args.occurrences.now) (omega arith) in
-    record { written = same_bytes (ap (λ os. lines c.args.text.now (contents c.args.names.now) (all_told os)) all) c.loop-i.invariant }
+    let f = line c.args.names.text.now c.args.names.records.now in
+    let os = c.args.occurrences.now in
+    let all = take_all c.loop-occurrence.occurrence-index os c.loop-occurrence-test.false in
+    record { written = same_bytes (ap (λ xs. flat_map (λ o. f (told o)) xs) all ∙ sym (flat_map-map f told os)) c.loop-occurrence.invariant }

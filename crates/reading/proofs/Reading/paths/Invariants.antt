@@ -1,10 +1,11 @@
 use Rattle.std.proofs.Common.{◌-◌, length}
+use Rattle.rules.specs.Automaton.{between}
 use Rattle.table.specs.Contents.{contents}
-use Rattle.reading.specs.State.{together, Looped}
+use Rattle.reading.specs.State.{Went}
 use Rattle.reading.proofs.Reading.paths.Given as goal
 
 abbrev pub invariant-loop-self : goal.invariant-loop-self
-invariant-loop-self l = Looped (together l.initial.self l.initial.tokens l.initial.names) (together l.self l.tokens l.names)
+invariant-loop-self l = Went l.fn.self l.self between
 
 abbrev pub decreases-loop-self : goal.decreases-loop-self
-decreases-loop-self l = 1088 - length (contents l.tokens)
+decreases-loop-self l = 1088 - length (contents l.self.tokens.now)

@@ -1,30 +1,19 @@
-use Rattle.std.proofs.Common.{◌≡◌, length, drop, ap, ◌∙◌, arith}
-use Rattle.input.specs.Told.{whole, unread}
-use Rattle.unit.proofs.Adding.{going_start, going_more, going_all}
+use Rattle.std.proofs.Common.{◌∙◌, ap, arith}
+use Rattle.std.specs.Iterator.Adapters.{enumerate_source, enumerate_count}
+use Rattle.input.specs.Told.{unread}
+use Rattle.unit.proofs.Adding.{added_line, going_start, going_more, going_all}
 use Rattle.unit.proofs.rulings.add_rulings.Goals as goal
 
-pub loop-line-init : goal.loop-line-init
-loop-line-init g c =
-    let all : unread c.new-lines.result ≡ c.args.log.now = ap (λ k. drop k (whole c.new-lines.result)) c.new-lines.ensures.place ∙ c.new-lines.ensures.bytes in
-    (omega arith, c.new-lines.ensures.bytes, λ t read reached. going_start g.R.Room.places _ t _ _ _ _ _ _ all reached)
+pub loop-i-init : goal.loop-i-init
+loop-i-init g c =
+    let same = c.into_iter-i-iterator.ensures.into_iter_gives in
+    let lines = c.enumerate-i-items.ensures in
+    λ t read reached. going_start g.R.Room.places _ t _ _ _ _ _ _ _ (ap (λ s. unread (enumerate_source s)) same ∙ ap unread lines.source ∙ c.new.ensures.bytes) (ap enumerate_count same ∙ lines.count) reached
 
-pub loop-line-preserved : goal.loop-line-preserved
-loop-line-preserved g c =
-    let next = c.in-Some.ensures in (
-      omega (arith, c.loop-line.invariant.0, next.moved, c.following-number.ensures.following),
-      next.bytes ∙ c.loop-line.invariant.1,
-      λ t read reached. going_more g.R.Room.places _ t _ _ _ _ _ _ _ _ _ _ _ _ _ read (c.loop-line.invariant.2 t read reached) next.line c.following-number.ensures.following c.in_ok-add_ruling.ensures.added,
-    )
-
-pub following-number-requires : goal.following-number-requires
-following-number-requires g c =
-    let next = c.in-Some.ensures in
-    omega (arith, c.loop-line.invariant.0, next.moved, next.bound, ap length (next.bytes ∙ c.loop-line.invariant.1))
-
-pub loop-line-smaller : goal.loop-line-smaller
-loop-line-smaller g c =
-    let next = c.in-Some.ensures in
-    omega (arith, next.moved, next.bound, ap length (next.bytes ∙ c.loop-line.invariant.1))
+pub loop-i-preserved : goal.loop-i-preserved
+loop-i-preserved g c =
+    let next = c.in-Some.ensures.steps in
+    λ t read reached. going_more g.R.Room.places _ t _ _ _ _ _ _ _ _ _ _ _ _ _ _ read (c.loop-i.invariant t read reached) next.0 next.1 next.2 (added_line g.R.Room.places _ _ _ _ _ _ _ _ _ _ _ _ _ c.rule_line-printed.result c.rule_line-printed.ensures.checked (omega arith) c.rule_line-printed.ensures.ruled c.in_ok-add.ensures.added)
 
 pub returns : goal.returns
-returns g c = record { added = λ t read reached. going_all g.R.Room.places _ t _ _ _ _ _ _ _ _ (c.loop-line.invariant.2 t read reached) c.in_default.ensures.line }
+returns g c = record { added = λ t read reached. going_all g.R.Room.places _ t _ _ _ _ _ _ _ _ (c.loop-i.invariant t read reached) c.in-None.ensures.steps.0.0 }

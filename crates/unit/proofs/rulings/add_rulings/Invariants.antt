@@ -1,19 +1,13 @@
-use Rattle.std.proofs.Common.{◌≡◌, ◌-◌, ◌≤◌, [], length, vec_items}
-use Rattle.table.specs.Contents.{contents}
+use Rattle.std.proofs.Common.{[], vec_items}
+use Rattle.std.specs.Iterator.Adapters.{enumerate_source, enumerate_count}
 use Rattle.paths.specs.Grammar.{Text}
-use Rattle.run.specs.Memory.{view, Reached}
-use Rattle.run.specs.Records.{Rule}
-use Rattle.input.specs.Told.{whole, unread}
+use Rattle.run.specs.Memory.{Reached}
+use Rattle.input.specs.Told.{unread}
 use Rattle.order_log.specs.Answers.{ReadNames}
 use Rattle.unit.proofs.Adding.{Going}
 use Rattle.unit.proofs.rulings.add_rulings.Given as goal
 
-abbrev pub invariant-loop-line : goal.invariant-loop-line
-invariant-loop-line g l =
-    let rule : Rule = record { start = g.R.Room.start; after = g.R.Room.after; chooses = g.R.Room.chooses } in
-    (l.number ≤ l.lines.place) × (whole l.lines ≡ l.log)
-    × ((t : Text) → ReadNames (contents l.names) → Reached t rule (view g.R.Room.entries g.R.Room.memory l.initial.run) [] →
-    Going g.R.Room.places rule t l.text (contents l.names) (vec_items l.initial.out) l.log (unread l.lines) l.number (view g.R.Room.entries g.R.Room.memory l.run) (vec_items l.out))
-
-abbrev pub decreases-loop-line : goal.decreases-loop-line
-decreases-loop-line g l = length l.log - l.lines.place
+abbrev pub invariant-loop-i : goal.invariant-loop-i
+invariant-loop-i g l =
+    (t : Text) → ReadNames (l.names.records.now) → Reached t g.R.Room.rule l.initial.run [] →
+    Going g.R.Room.places g.R.Room.rule t l.names.text.now (l.names.records.now) (vec_items l.initial.out) l.log (unread (enumerate_source l.i-iterator)) (enumerate_count l.i-iterator) l.run (vec_items l.out)

@@ -1,10 +1,6 @@
 use Rattle.std.proofs.Common.{refl}
-use Rattle.run.specs.Records.{Rule}
 use Rattle.run.proofs.Openings.{totaled}
 use Rattle.run.proofs.state.Run.apart.Goals as goal
 
-pub returns : goal.returns
-returns g c =
-    let m = g.R.Room in
-    let rule : Rule = record { start = m.start; after = m.after; chooses = m.chooses } in
-    record { totals = λ t rs s. totaled t rule _ rs _ s refl c.less.ensures c.count.ensures.counts refl refl; room = refl }
+pub returns-clause-totals : goal.returns-clause-totals
+returns-clause-totals g c = rw (← c.self.view_is) (λ t rs s. totaled t g.R.Room.rule _ rs _ s refl c.saturating_sub.ensures c.count.ensures.counts refl refl)

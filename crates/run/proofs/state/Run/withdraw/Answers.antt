@@ -1,22 +1,11 @@
-use Rattle.std.proofs.Common.{refl}
-use Rattle.run.specs.Memory.{view}
-use Rattle.run.specs.Records.{Rule}
-use Rattle.run.proofs.Steps.{view_same, run_same}
-use Rattle.run.proofs.Withdrawals.{withdraws, withdraws_nothing}
+use Rattle.std.proofs.lemmas.Result.{err_from_is_err_and}
+use Rattle.run.proofs.Withdrawals.{withdraws_one, withdraws_nothing}
 use Rattle.run.proofs.state.Run.withdraw.Goals as goal
 
-pub returns-in-Some : goal.returns-in-Some
-returns-in-Some g c =
-    let m = g.R.Room in
-    let rule : Rule = record { start = m.start; after = m.after; chooses = m.chooses } in
-    let v = view m.entries m.memory c.args.self.now in
-    let said = c.in-Some.ensures in
-    record { says = withdraws m.places rule v _ _ _ _ _ said.says said.remembers c.count_withdrawn.ensures; keeps = tt }
+pub returns-in_err-operation-clause-says : goal.returns-in_err-operation-clause-says
+returns-in_err-operation-clause-says g c =
+    let p = err_from_is_err_and c.from_residual.result c.from_residual.ensures.1 in
+    rw (← c.self.view_is) (rw (p.1, p.2) (withdraws_nothing g.R.Room.places g.R.Room.rule _ _ _ _ _ c.drop_ticket.result _ c.in_err-operation.ensures.value c.drop_ticket.ensures.says c.drop_ticket.ensures.absent (λ same. (cc))))
 
-pub returns-in-None : goal.returns-in-None
-returns-in-None g c =
-    let m = g.R.Room in
-    let rule : Rule = record { start = m.start; after = m.after; chooses = m.chooses } in
-    let v = view m.entries m.memory c.args.self.now in
-    let said = c.in-None.ensures in
-    record { says = withdraws_nothing m.places rule v _ _ said.says.0 (view_same said.says.1 said.remembers); keeps = run_same c.args.self.now _ _ (said.absent refl) }
+pub returns-clause-says : goal.returns-clause-says
+returns-clause-says g c = rw (← c.self.view_is) (withdraws_one g.R.Room.places g.R.Room.rule _ _ _ _ c.drop_ticket.new.self _ c.drop_ticket.result _ c.in_ok-operation.ensures.value c.drop_ticket.ensures.says c.drop_ticket.ensures.remembers (let more = c.saturating_add-self-inside.ensures in cc))

@@ -12,9 +12,9 @@ fn put<R: Room>(room: &mut R, ticket: u32, operation: u8, rank: u8) -> Result<()
     })
 }
 
-// The ticket that is taken, or 0.
-fn taken<R: Room>(room: &mut R, allowed: &[bool; 64]) -> u32 {
-    room.take(allowed).map_or(0, |e| e.ticket)
+// The ticket that is taken.
+fn taken<R: Room>(room: &mut R, allowed: &[bool; 64]) -> Option<u32> {
+    room.take(allowed).map(|e| e.ticket)
 }
 
 #[test]
@@ -27,7 +27,7 @@ fn has_256_places(rt: HostRuntime) {
     assert_eq!(rt; put(&mut room, 257, 0, 0), Err(PutFault::Full));
     assert_eq!(rt; put(&mut room, 7, 0, 0), Err(PutFault::Known));
     assert_eq!(rt; room.count(), 256);
-    assert_eq!(rt; taken(&mut room, &[true; 64]), 1);
+    assert_eq!(rt; taken(&mut room, &[true; 64]), Some(1));
     assert_eq!(rt; put(&mut room, 257, 0, 0), Ok(()));
 }
 
@@ -35,14 +35,14 @@ fn has_256_places(rt: HostRuntime) {
 fn by_age(rt: HostRuntime) {
     let mut room = AgeRoom::new();
     let mut allowed = [false; 64];
-    assert_eq!(rt; taken(&mut room, &allowed), 0);
+    assert_eq!(rt; taken(&mut room, &allowed), None);
     assert_eq!(rt; put(&mut room, 8, 2, 9), Ok(()));
     assert_eq!(rt; put(&mut room, 3, 1, 0), Ok(()));
     assert_eq!(rt; put(&mut room, 5, 2, 5), Ok(()));
-    assert_eq!(rt; taken(&mut room, &allowed), 0);
+    assert_eq!(rt; taken(&mut room, &allowed), None);
     allowed[2] = true;
-    assert_eq!(rt; taken(&mut room, &allowed), 5);
-    assert_eq!(rt; taken(&mut room, &[true; 64]), 3);
+    assert_eq!(rt; taken(&mut room, &allowed), Some(5));
+    assert_eq!(rt; taken(&mut room, &[true; 64]), Some(3));
     assert_eq!(rt; room.drop_ticket(8), Some(2));
     assert_eq!(rt; room.drop_ticket(8), None);
     assert_eq!(rt; room.count(), 0);
@@ -56,10 +56,10 @@ fn by_rank(rt: HostRuntime) {
     assert_eq!(rt; put(&mut room, 1, 0, 3), Ok(()));
     assert_eq!(rt; put(&mut room, 9, 63, 7), Ok(()));
     assert_eq!(rt; put(&mut room, 6, 200, 9), Ok(()));
-    assert_eq!(rt; taken(&mut room, &[true; 64]), 9);
-    assert_eq!(rt; taken(&mut room, &[true; 64]), 2);
-    assert_eq!(rt; taken(&mut room, &[true; 64]), 4);
-    assert_eq!(rt; taken(&mut room, &[true; 64]), 1);
-    assert_eq!(rt; taken(&mut room, &[true; 64]), 0);
+    assert_eq!(rt; taken(&mut room, &[true; 64]), Some(9));
+    assert_eq!(rt; taken(&mut room, &[true; 64]), Some(2));
+    assert_eq!(rt; taken(&mut room, &[true; 64]), Some(4));
+    assert_eq!(rt; taken(&mut room, &[true; 64]), Some(1));
+    assert_eq!(rt; taken(&mut room, &[true; 64]), None);
     assert_eq!(rt; room.drop_ticket(6), Some(200));
 }

@@ -1,5 +1,4 @@
 // What the calls of a run answer.
-use rooms::entry::Entry;
 
 // A begin that is accepted, with its ticket: let in, or told to wait.
 #[derive(Clone, Copy)]
@@ -13,19 +12,6 @@ pub enum Begun {
 pub struct LetIn {
     pub ticket: u32,
     pub operation: u8,
-}
-
-impl From<Entry> for LetIn {
-    ghost use Rattle.std.specs.Prelude.{◌≡◌};
-
-    ghost from_gives = { λ e l. l ≡ record { ticket = e.ticket; operation = e.operation } };
-
-    fn from(entry: Entry) -> LetIn {
-        LetIn {
-            ticket: entry.ticket,
-            operation: entry.operation,
-        }
-    }
 }
 
 // What a closed run counted.

@@ -16,7 +16,7 @@ use Rattle.run.specs.Memory.{View, Reached}
 use Rattle.input.specs.Input.{Lines}
 use Rattle.order_log.specs.Rulings.{Ruling, Ruled, ruling_lines}
 use Rattle.order_log.specs.Answers.{Carried, ReadNames}
-use Rattle.unit.specs.Output.{records, log_print, RulesOn, LogPrinted, TextPrints}
+use Rattle.unit.specs.Output.{records, log_print, RulesOn, LogPrinted}
 
 -- a line is ruled, which takes the run's memory from v to w, and its print is added to the output
 pub record LineAdded {R : Type 0} (places : ℕ) (rule : Rule) (text : List ℕ) (names : List Name) (line : List ℕ) (number : ℕ) (v w : View R) (out out' : List ℕ) : Type 0 where
@@ -53,10 +53,4 @@ pub record RunAdded (places : ℕ) (rule : Rule) (text log out out' : List ℕ) 
   pub of_log : Lines log lines
   pub bytes : List ℕ
   pub printed : LogPrinted places rule text lines bytes
-  pub added : out' ≡ out ++ bytes
-
--- what is printed for a text and its log is added to the output
-pub record TextAdded (places : ℕ) (rule : Rule) (text log out out' : List ℕ) : Type 0 where
-  pub bytes : List ℕ
-  pub printed : TextPrints places rule text log bytes
   pub added : out' ≡ out ++ bytes

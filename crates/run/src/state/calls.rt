@@ -45,7 +45,12 @@ impl<R: Room> Run<R> {
             let Some(entry) = self.admit() else {
                 return Ok(n);
             };
-            *place = LetIn::from(entry);
+            let Entry {
+                ticket,
+                operation,
+                rank: _,
+            } = entry;
+            *place = LetIn { ticket, operation };
         }
         Ok(list.len())
     }

@@ -34,6 +34,7 @@ impl<R: Room> Run<R> {
     // Takes the run apart into its totals and its room.
     pub(crate) fn apart(self) -> Closed<R>
         ensures totals { (t : Text) (rs : List Record) → Reached t R.rule self rs → Totaled rs result.totals }
+        ensures room { result.room ≡ self.room }
         ensures waits { R.entries result.room ≡ self.entries }
     {
         let Run {

@@ -13,7 +13,7 @@ loop-n-preserved g c =
     record {
       room = let fewer = in'.left.fewer in grind (arith, common_steps);
       rest = rest_turn l _ c.args.list.now n _ refl now.rest;
-      ending = rw c.from.ensures (turn g.R.Room.rule g.met.R.Room.same g.met.R.Room.sound _ c.args.operation (length c.args.list.now) _ _ n l (set l n (listed c.in-Some.entry)) c.in-Some.entry (omega arith) in' refl now.ending);
+      ending = turn g.R.Room.rule g.met.R.Room.same g.met.R.Room.sound _ c.args.operation (length c.args.list.now) _ _ n l (set l n (listed c.in-Some.entry)) c.in-Some.entry (omega arith) in' refl now.ending;
     }
 
 pub returns-in_default-clause-says : goal.returns-in_default-clause-says

@@ -19,10 +19,10 @@ use table::Table;
 use tokens::{Name, Names, Token};
 use translation::translate;
 
-// Reads and translates a text with so many places.
+// Reads and translates a text with so many places, or tells the number of the refusal.
 fn translated<const TOKENS: usize, const NAMES: usize, const DOORS: usize>(
     text: &[u8],
-) -> Result<(), ReadFault>
+) -> Result<(), u8>
     requires { (TOKENS ≤ 1088) × (NAMES ≤ 64) × (DOORS ≤ 256) }
 {
     let mut tokens = [Token::default(); TOKENS];
@@ -31,9 +31,11 @@ fn translated<const TOKENS: usize, const NAMES: usize, const DOORS: usize>(
     let mut tokens = Table::new(&mut tokens);
     let mut names = Table::new(&mut names);
     let mut occurrences = Table::new(&mut occurrences);
-    let read = read(text, &mut tokens, &mut names)?;
-    let _ = translate(read, text, &tokens, &names, &mut occurrences)?;
-    Ok(())
+    let read = read(text, &mut tokens, &mut names).map_err(ReadFault::number)?;
+    match translate(read, text, &tokens, &names, &mut occurrences) {
+        Ok(_) => Ok(()),
+        Err(refusal) => Err(refusal.number()),
+    }
 }
 
 // The number with which an answer is refused, 0 for none.
@@ -45,10 +47,10 @@ fn refused<T: Drop, E, F: FnOnce(E) -> u8>(answer: Result<T, E>, number: F) -> u
 
 fn show_tables(rt: &HostRuntime) -> io::Result<()> {
     let text = b"path a end";
-    let enough = refused(translated::<1088, 64, 256>(text), ReadFault::number);
-    let few_tokens = refused(translated::<1087, 64, 256>(text), ReadFault::number);
-    let few_names = refused(translated::<1088, 63, 256>(text), ReadFault::number);
-    let few_doors = refused(translated::<1088, 64, 255>(text), ReadFault::number);
+    let enough = refused(translated::<1088, 64, 256>(text), |number| number);
+    let few_tokens = refused(translated::<1087, 64, 256>(text), |number| number);
+    let few_names = refused(translated::<1088, 63, 256>(text), |number| number);
+    let few_doors = refused(translated::<1088, 64, 255>(text), |number| number);
     println!(rt; "tables: {enough}, a place fewer: {few_tokens} {few_names} {few_doors}")
 }
 

@@ -9,10 +9,10 @@ use Rattle.rooms.specs.declared.entry.Entry.{Entry}
 use Rattle.rooms.specs.Entries.{In, none}
 use Rattle.rooms.specs.First.{First, Best, Chosen}
 
-abbrev Total : (Entry → Entry → Bool) → Type 0
+abbrev pub Total : (Entry → Entry → Bool) → Type 0
 Total first = (x y : Entry) → (first x y ≡ true) ⊎ (first y x ≡ true)
 
-abbrev Transitive : (Entry → Entry → Bool) → Type 0
+abbrev pub Transitive : (Entry → Entry → Bool) → Type 0
 Transitive first = (x y z : Entry) → first x y ≡ true → first y z ≡ true → first x z ≡ true
 
 -- the first of the allowed by place is the first of the set

@@ -4,3 +4,4 @@ pub mod Exact
 pub mod First
 pub mod Sets
 pub mod Best
+pub mod Places

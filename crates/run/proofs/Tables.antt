@@ -1,6 +1,6 @@
 -- The table of the operations that could join, filled from the front.
-use Rattle.std.proofs.Common.{◌≡◌, ℕ, ◌+◌, ◌<◌, ◌≤◌, Bool, true, false, List, length, get_or, set, replicate, Decides, Some, None, sym, ◌∙◌, subst, inl, inr, arith, below_more}
-use Rattle.std.proofs.lemmas.List.{length-replicate, length-set, get_or-set_same, get_or-set_other, get_or-replicate, get_or_past}
+use Rattle.std.proofs.Common.{◌≡◌, ℕ, ◌+◌, ◌-◌, ◌<◌, Bool, true, false, List, ◌++◌, length, get_or, set, drop, replicate, Decides, Some, None, sym, ◌∙◌, subst, inl, inr, arith, below_more}
+use Rattle.std.proofs.lemmas.List.{get_or-set_same, get_or-set_other, get_or_append_left, get_or-append_right, get_or-drop, get_or-replicate, get_or_past}
 use Rattle.std.proofs.lemmas.Bool.{cases_lt, both_ways}
 use Rattle.paths.specs.Grammar.{Text}
 use Rattle.rooms.specs.declared.entry.Entry.{Entry}
@@ -9,47 +9,36 @@ use Rattle.rooms.specs.Rule.{Rule}
 use Rattle.run.specs.Memory.{View, Account, Matches, Tested, Fitting, with_room, GoneIn, Admitted, Admits}
 use Rattle.run.specs.Says.{Known, Joins}
 
--- the first n places say which operations of the text could join, the others are false
-pub record Filled {R : Type 0} (v : View R) (n : ℕ) (table : List Bool) : Type 0 where
-  pub long : length table ≡ 64
-  pub front : (t : Text) (s : Account) → Matches t v s → (a : ℕ) → a < n → Decides (get_or table a false) (Known t a × Joins t s.history a)
-  pub rest : (a : ℕ) → n ≤ a → get_or table a false ≡ false
+-- the first n places say which operations of the text could join
+abbrev pub Filled : {R : Type 0} → View R → ℕ → List Bool → Type 0
+Filled v n table = (t : Text) (s : Account) → Matches t v s → (a : ℕ) → a < n → Decides (get_or table a false) (Known t a × Joins t s.history a)
 
-pub filled_none : {R : Type 0} (v : View R) → Filled v 0 (replicate 64 false)
-filled_none v = record {
-  long = length-replicate {A = Bool} 64 false;
-  front = λ t s m a l. absurd (omega arith);
-  rest = λ a l. elim (cases_lt a 64) [ inl h ↦ get_or-replicate 64 a false false h | inr h ↦ get_or_past (replicate 64 false) a false h ];
-}
+-- no operation of a table that was not filled
+nothing : (k : ℕ) → get_or (replicate 64 false) k false ≡ false
+nothing k = elim (cases_lt k 64) [ inl l ↦ get_or-replicate 64 k false false l | inr ge ↦ get_or_past (replicate 64 false) k false ge ]
 
-module _ {R : Type 0} (v : View R) (n : ℕ) (table : List Bool) (f : Filled v n table) where
+module _ {R : Type 0} (v : View R) (n : ℕ) (table : List Bool) where
+  pub filled_none : Filled v 0 table
+  filled_none t s m a l = absurd (omega arith)
+
   -- an operation of the text
-  pub filled_more : (b : Bool) → n < v.operations → n < 64 → Tested v n b → Filled v (n + 1) (set table n b)
-  filled_more b known l test =
-      let long = f.long in
-      record {
-        long = length-set table n b ∙ f.long;
-        front = λ t s m. below_more (λ a. Decides (get_or (set table n b) a false) (Known t a × Joins t s.history a)) n
-            (λ a h. (let ne : a ≡ n → ⊥ = omega arith in subst (λ c. Decides c (Known t a × Joins t s.history a)) (sym (get_or-set_other table n a b false ne)) (f.front t s m a h)))
-            (subst (λ c. Decides c (Known t n × Joins t s.history n)) (sym (get_or-set_same table n b false (omega arith)))
-            (let d = test t s.history m.proper m.fits m.doors in (λ e. ((m.names n).0 known, d.0 e), λ k. d.1 k.1)));
-        rest = λ a h. (let ne : a ≡ n → ⊥ = omega arith in get_or-set_other table n a b false ne ∙ f.rest a (omega arith));
-      }
+  pub filled_more : Filled v n table → (b : Bool) → n < v.operations → n < length table → Tested v n b → Filled v (n + 1) (set table n b)
+  filled_more f b known l test t s m =
+      below_more (λ a. Decides (get_or (set table n b) a false) (Known t a × Joins t s.history a)) n
+      (λ a h. (let ne : a ≡ n → ⊥ = omega arith in subst (λ c. Decides c (Known t a × Joins t s.history a)) (sym (get_or-set_other table n a b false ne)) (f t s m a h)))
+      (subst (λ c. Decides c (Known t n × Joins t s.history n)) (sym (get_or-set_same table n b false l))
+      (let d = test t s.history m.proper m.fits m.doors in (λ e. ((m.names n).0 known, d.0 e), λ k. d.1 k.1)))
 
-  -- a number past them
-  pub filled_past : v.operations ≤ n → Filled v (n + 1) table
-  filled_past past = record {
-    long = f.long;
-    front = λ t s m. below_more (λ a. Decides (get_or table a false) (Known t a × Joins t s.history a)) n (f.front t s m)
-        (λ e. absurd (both_ways (get_or table n false) (f.rest n (omega arith)) e), λ k. (let l = (m.names n).1 k.0 in absurd (omega arith)));
-    rest = λ a h. f.rest a (omega arith);
-  }
-
-  pub filled_all : v.operations ≤ n → Fitting v (λ a. get_or table a false)
-  filled_all all t s m a =
+  -- behind the operations of the text the table is false
+  pub filled_all : Filled v n table → length table ≡ n → n ≡ v.operations → Fitting v (λ a. get_or (table ++ drop n (replicate 64 false)) a false)
+  filled_all f long all t s m a =
       elim (cases_lt a n) [
-        | inl l ↦ f.front t s m a l
-        | inr ge ↦ (λ e. absurd (both_ways (get_or table a false) (f.rest a ge) e), λ k. (let l = (m.names a).1 k.0 in absurd (omega arith)))
+        | inl l ↦ subst (λ c. Decides c (Known t a × Joins t s.history a)) (sym (get_or_append_left table (drop n (replicate 64 false)) false a (omega arith))) (f t s m a l)
+        | inr ge ↦ (
+            let none : get_or (table ++ drop n (replicate 64 false)) a false ≡ false
+            = get_or-append_right table (drop n (replicate 64 false)) n a false long ge ∙ get_or-drop n (replicate 64 false) (a - n) false ∙ nothing (n + (a - n)) in
+            (λ e. absurd (both_ways _ none e), λ k. (let l = (m.names a).1 k.0 in absurd (omega arith)))
+            )
       ]
 
 -- an operation that the table allows is below 64

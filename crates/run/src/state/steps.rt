@@ -78,10 +78,8 @@ impl<R: Room> Run<R> {
         ensures long { length result ≡ 64 }
     {
         let mut table = [false; 64];
-        for (a, may) in table.iter_mut().enumerate() {
-            if a < self.operations {
-                *may = self.could_join(a as u8);
-            }
+        for (a, may) in table[..self.operations].iter_mut().enumerate() {
+            *may = self.could_join(a as u8);
         }
         table
     }

@@ -19,7 +19,8 @@ loop-n-preserved g c =
 pub returns-in_default-clause-says : goal.returns-in_default-clause-says
 returns-in_default-clause-says g c =
     let none = c.in_default.ensures in
-    rw set-get_or (ends g.R.Room.places g.R.Room.rule c.args.self.now _ _ _ c.args.operation _ c.loop-n.n c.loop-n.list c.in_ok-may_end.ensures.says c.in_ok-may_end.ensures.within c.go_out.ensures c.loop-n.invariant.ending (omega arith) none.0 none.1)
+    let says = ends g.R.Room.places g.R.Room.rule c.args.self.now _ _ _ c.args.operation _ c.loop-n.n c.loop-n.list c.in_ok-may_end.ensures.says c.in_ok-may_end.ensures.within c.go_out.ensures c.loop-n.invariant.ending (omega arith) none.0 none.1 in
+    grind (arith, common_steps, set-get_or)
 
 pub returns-clause-says : goal.returns-clause-says
 returns-clause-says g c =

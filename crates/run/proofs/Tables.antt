@@ -1,5 +1,5 @@
 -- The table of the operations that could join, filled from the front.
-use Rattle.std.proofs.Common.{◌≡◌, ℕ, ◌+◌, ◌-◌, ◌<◌, Bool, true, false, List, ◌++◌, length, get_or, set, drop, replicate, Decides, Some, None, sym, ◌∙◌, subst, inl, inr, arith, below_more}
+use Rattle.std.proofs.Common.{◌≡◌, ℕ, ◌+◌, ◌-◌, ◌<◌, ◌≤◌, Bool, true, false, List, ◌++◌, length, get_or, set, drop, replicate, Decides, Some, None, sym, ◌∙◌, subst, inl, inr, arith, below_more}
 use Rattle.std.proofs.lemmas.List.{get_or-set_same, get_or-set_other, get_or_append_left, get_or-append_right, get_or-drop, get_or-replicate, get_or_past}
 use Rattle.std.proofs.lemmas.Bool.{cases_lt, both_ways}
 use Rattle.paths.specs.Grammar.{Text}
@@ -30,15 +30,14 @@ module _ {R : Type 0} (v : View R) (n : ℕ) (table : List Bool) where
       (let d = test t s.history m.proper m.fits m.doors in (λ e. ((m.names n).0 known, d.0 e), λ k. d.1 k.1)))
 
   -- behind the operations of the text the table is false
+  behind : length table ≡ n → (a : ℕ) → n ≤ a → get_or (table ++ drop n (replicate 64 false)) a false ≡ false
+  behind long a ge = get_or-append_right table (drop n (replicate 64 false)) n a false long ge ∙ get_or-drop n (replicate 64 false) (a - n) false ∙ nothing (n + (a - n))
+
   pub filled_all : Filled v n table → length table ≡ n → n ≡ v.operations → Fitting v (λ a. get_or (table ++ drop n (replicate 64 false)) a false)
   filled_all f long all t s m a =
       elim (cases_lt a n) [
         | inl l ↦ subst (λ c. Decides c (Known t a × Joins t s.history a)) (sym (get_or_append_left table (drop n (replicate 64 false)) false a (omega arith))) (f t s m a l)
-        | inr ge ↦ (
-            let none : get_or (table ++ drop n (replicate 64 false)) a false ≡ false
-            = get_or-append_right table (drop n (replicate 64 false)) n a false long ge ∙ get_or-drop n (replicate 64 false) (a - n) false ∙ nothing (n + (a - n)) in
-            (λ e. absurd (both_ways _ none e), λ k. (let l = (m.names a).1 k.0 in absurd (omega arith)))
-            )
+        | inr ge ↦ (λ e. absurd (both_ways _ (behind long a ge) e), λ k. (let l = (m.names a).1 k.0 in absurd (omega arith)))
       ]
 
 -- an operation that the table allows is below 64
